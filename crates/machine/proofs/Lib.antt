@@ -1,0 +1,15 @@
+pub mod Stuck
+pub mod Steps
+pub mod Counts
+pub mod Conserved
+pub mod Road
+pub mod InOrder
+pub mod Looks
+pub mod Flows
+pub mod Rounds
+pub mod OneLink
+pub mod Motion
+pub mod Patience
+pub mod Left
+pub mod Waiting
+pub mod Whole

@@ -1,0 +1,4 @@
+pub mod Round
+pub mod Waits
+pub mod Promise
+pub mod Still

@@ -1,0 +1,4 @@
+pub mod Outside
+pub mod Positions
+pub mod Ranked
+pub mod Steps

@@ -1,0 +1,6 @@
+pub mod Heads
+pub mod Layout
+pub mod Net
+pub mod Order
+pub mod Planned
+pub mod Position

@@ -1,0 +1,3 @@
+pub mod Fabric
+pub mod Refused
+pub mod Running

@@ -1,0 +1,3 @@
+pub mod Credit
+pub mod Ring
+pub mod Store
