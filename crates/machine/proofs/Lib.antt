@@ -1,3 +1,4 @@
+pub mod Late
 pub mod Stuck
 pub mod Steps
 pub mod Counts

@@ -1,4 +1,5 @@
 pub mod Round
 pub mod Waits
+pub mod OnTime
 pub mod Promise
 pub mod Still

@@ -1,5 +1,6 @@
 // The machine in specs/: the state of a net, what a round does, and the promises. In proofs/ the promises are
 // proved of it, over any good net and any script. Each function here has one theorem as its contract.
+ghost use Rattle.machine.specs.OnTime.{OnTime};
 ghost use Rattle.machine.specs.Promise.{Fits, CountRight, Conserved, InOrder, AtPlace, OneLink, Moves, Waits, Enters, Main};
 ghost use Rattle.machine.specs.Still.{StandsStill};
 
@@ -76,6 +77,13 @@ pub fn enters_bounded() -> u8
 // The whole promise.
 pub fn whole_promise() -> u8
     ensures { λ _. ⌜ Main ⌝ }
+{
+    0
+}
+
+// A block can take as long as its wait.
+pub fn takes_its_wait() -> u8
+    ensures { λ _. ⌜ OnTime ⌝ }
 {
     0
 }
