@@ -18,17 +18,21 @@ use Rattle.machine.specs.Waits.{wait}
 -- doors are channels 4 to 6.
 abbrev pub line : Net
 line = record {
-    links = 4; doors = 3; places = 3; store = 1;
-    next = λ c p. entryAt (
-        Here ∷ Here ∷ Link 3 ∷
-        Here ∷ Here ∷ Here ∷
-        Here ∷ Link 1 ∷ Here ∷
-        Here ∷ Here ∷ Here ∷
-        Here ∷ Link 1 ∷ Link 3 ∷
-        Link 0 ∷ Here ∷ Link 0 ∷
-        Link 2 ∷ Link 2 ∷ Here ∷ []) 3 c p;
-    rank = λ c. getD (1 ∷ 2 ∷ 1 ∷ 2 ∷ 0 ∷ 0 ∷ 0 ∷ []) c 0;
-    ends = λ c. getD (0 ∷ 1 ∷ 0 ∷ 2 ∷ 0 ∷ 1 ∷ 2 ∷ []) c 0 }
+  links = 4;
+  doors = 3;
+  places = 3;
+  store = 1;
+  next = λ c p. entryAt (
+      Here ∷ Here ∷ Link 3 ∷
+      Here ∷ Here ∷ Here ∷
+      Here ∷ Link 1 ∷ Here ∷
+      Here ∷ Here ∷ Here ∷
+      Here ∷ Link 1 ∷ Link 3 ∷
+      Link 0 ∷ Here ∷ Link 0 ∷
+      Link 2 ∷ Link 2 ∷ Here ∷ []) 3 c p;
+  rank = λ c. getD (1 ∷ 2 ∷ 1 ∷ 2 ∷ 0 ∷ 0 ∷ 0 ∷ []) c 0;
+  ends = λ c. getD (0 ∷ 1 ∷ 0 ∷ 2 ∷ 0 ∷ 1 ∷ 2 ∷ []) c 0;
+}
 
 -- a block for place 2
 abbrev pub bound : ℕ → ℕ → Block

@@ -1,0 +1,12 @@
+pub mod Along
+pub mod Count
+pub mod Turned
+pub mod Marks
+pub mod Falling
+pub mod Least
+pub mod Outside
+pub mod Filled
+pub mod Rising
+pub mod Alike
+pub mod Whole
+pub mod Rounds
