@@ -1,0 +1,10 @@
+pub mod Follow
+pub mod Served
+pub mod Parts
+pub mod Layering
+pub mod Looking
+pub mod Sweeping
+pub mod Marking
+pub mod Walking
+pub mod Filling
+pub mod Whole

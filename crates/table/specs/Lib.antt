@@ -1,0 +1,6 @@
+pub mod Kept
+pub mod Cells
+pub mod Marked
+pub mod Laid
+pub mod Laws
+pub mod Promised

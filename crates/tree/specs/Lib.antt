@@ -1,0 +1,4 @@
+pub mod Legal
+pub mod Planted
+pub mod Laws
+pub mod Made
