@@ -9,8 +9,8 @@ loop-cable-init c = c.new-to.ensures.items ∙ tos_none c.args.cables.now
 pub loop-cable-preserved : goal.loop-cable-preserved
 loop-cable-preserved c =
     let e = tos_more c.args.cables.now c.loop-cable.cable-index (get_or c.args.cables.now c.loop-cable.cable-index no_cable) (vec_items c.loop-cable.to) (omega arith) refl c.loop-cable.invariant in
-    let p = c.in-ok-push.ensures.items in
-    let q = c.in-ok-push-2.ensures.items in
+    let p = c.in_ok-push.ensures.items in
+    let q = c.in_ok-push-2.ensures.items in
     cc
 
 pub returns : goal.returns

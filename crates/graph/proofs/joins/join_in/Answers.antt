@@ -14,6 +14,6 @@ returns-then-root-sets c =
 pub returns-else-root-sets : goal.returns-else-root-sets
 returns-else-root-sets c =
     joins_lost (length c.args.sets.now) c.args.from.now c.args.to.now c.center-root.new.sets c.center-root.result c.requires.linked c.center-root.ensures (omega arith)
-    c.lowest-missing.result
+    c.lowest_missing.result
     (let e : length c.center-root.new.sets ≡ length c.args.sets.now = omega arith in
-    subst (λ (n : ℕ). Least (λ i. not (has (get_or c.center-root.new.sets 0 0) i)) n c.lowest-missing.result) e c.lowest-missing.ensures)
+    subst (λ (n : ℕ). Least (λ i. not (has (get_or c.center-root.new.sets 0 0) i)) n c.lowest_missing.result) e c.lowest_missing.ensures)

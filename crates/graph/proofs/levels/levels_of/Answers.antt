@@ -3,8 +3,8 @@ use Rattle.std.proofs.lemmas.List.{length-take-le, get_or-take, get_or-replicate
 use Rattle.graph.specs.Layers.{Ends, Levelled}
 use Rattle.graph.proofs.levels.levels_of.Goals as goal
 
-pub levels-in-requires : goal.levels-in-requires
-levels-in-requires c =
+pub levels_in-requires : goal.levels_in-requires
+levels_in-requires c =
     let e : length (take c.args.switches (replicate {A = ℕ} 64 0)) ≡ c.args.switches = length-take-le c.args.switches (replicate 64 0) c.requires.few in
     record {
       ends = subst (λ (n : ℕ). Ends n c.args.from.now c.args.to.now) (sym e) c.requires.ends;
@@ -17,4 +17,4 @@ levels-in-requires c =
 pub returns : goal.returns
 returns c =
     let e : length (take c.args.switches (replicate {A = ℕ} 64 0)) ≡ c.args.switches = length-take-le c.args.switches (replicate 64 0) c.requires.few in
-    subst (λ (n : ℕ). IfOk c.levels-in.result (λ v. Levelled n c.args.from.now c.args.to.now c.args.root (vec_items v))) e c.levels-in.ensures
+    subst (λ (n : ℕ). IfOk c.levels_in.result (λ v. Levelled n c.args.from.now c.args.to.now c.args.root (vec_items v))) e c.levels_in.ensures

@@ -22,9 +22,9 @@ returns-then-ranks-links c =
       law = in_order_of_rank;
     }
 
-pub returns-in-err-served : goal.returns-in-err-served
-returns-in-err-served c =
-    let p = err_from_is_err_and c.from-residual.result c.from-residual.ensures.1 in
+pub returns-in_err-served : goal.returns-in_err-served
+returns-in_err-served c =
+    let p = err_from_is_err_and c.from_residual.result c.from_residual.ensures.1 in
     rw (p.1, p.2) record {
       refused = sym (neither (length c.args.ranks.now) 65536 c.args.links (omega arith) (omega arith));
       ordered = tt;
@@ -33,10 +33,10 @@ returns-in-err-served c =
     }
 
 pub loop-link-init : goal.loop-link-init
-loop-link-init c = c.in-ok-served.ensures.items ∙ order_none (rank_of c.args.ranks.now)
+loop-link-init c = c.in_ok-served.ensures.items ∙ order_none (rank_of c.args.ranks.now)
 
-pub position-of-at-requires : goal.position-of-at-requires
-position-of-at-requires c =
+pub position_of-at-requires : goal.position_of-at-requires
+position_of-at-requires c =
     record {
       ranked = omega arith;
       known = order_known (rank_of c.args.ranks.now) c.loop-link.link (length c.args.ranks.now) _ (c.deref.ensures.value ∙ c.loop-link.invariant) (omega arith);
@@ -44,13 +44,13 @@ position-of-at-requires c =
 
 pub insert-requires : goal.insert-requires
 insert-requires c =
-    let q = c.position-of-at.ensures in
+    let q = c.position_of-at.ensures in
     let f = position_fits (rank_of c.args.ranks.now) c.loop-link.link c.deref.result.now in
     omega (arith, c.deref.ensures.len)
 
-pub returns-in-err-insert : goal.returns-in-err-insert
-returns-in-err-insert c =
-    let p = err_from_is_err_and c.from-residual-in-err-insert.result c.from-residual-in-err-insert.ensures.1 in
+pub returns-in_err-insert : goal.returns-in_err-insert
+returns-in_err-insert c =
+    let p = err_from_is_err_and c.from_residual-in_err-insert.result c.from_residual-in_err-insert.ensures.1 in
     rw (p.1, p.2) record {
       refused = sym (neither (length c.args.ranks.now) 65536 c.args.links (omega arith) (omega arith));
       ordered = tt;
@@ -60,7 +60,7 @@ returns-in-err-insert c =
 
 pub loop-link-preserved : goal.loop-link-preserved
 loop-link-preserved c =
-    order_more (rank_of c.args.ranks.now) c.loop-link.link c.position-of-at.result c.deref.result.now (vec_items c.loop-link.served) (vec_items c.insert.new.self) c.loop-link.invariant c.deref.ensures.value c.position-of-at.ensures c.in-ok-insert.ensures.items
+    order_more (rank_of c.args.ranks.now) c.loop-link.link c.position_of-at.result c.deref.result.now (vec_items c.loop-link.served) (vec_items c.insert.new.self) c.loop-link.invariant c.deref.ensures.value c.position_of-at.ensures c.in_ok-insert.ensures.items
 
 pub returns : goal.returns
 returns c =

@@ -13,23 +13,23 @@ returns-in-Some c =
     let es = c.args.table.now in
     let n = c.args.n in
     let m = c.args.m in
-    let rows = c.as-slice.result.now in
-    let a : Agrees es n m rows = subst (λ (xs : List Bool). Agrees es n m xs) (sym c.as-slice.ensures.value) c.in-ok-rows.ensures in
+    let rows = c.as_slice.result.now in
+    let a : Agrees es n m rows = subst (λ (xs : List Bool). Agrees es n m xs) (sym c.as_slice.ensures.value) c.in_ok-rows.ensures in
     smallest_like (Feeds rows n) (Hands es m) a.only a.each (vec_items c.in-Some.ring)
-    (MatchOption-at_some (NoRing (Feeds rows n)) (λ v. Smallest (Feeds rows n) (vec_items v)) c.in-Some.ring c.in-Some.is c.in-ok-ring.ensures)
+    (MatchOption-at_some (NoRing (Feeds rows n)) (λ v. Smallest (Feeds rows n) (vec_items v)) c.in-Some.ring c.in-Some.is c.in_ok-ring.ensures)
 
-pub least-ranks-requires : goal.least-ranks-requires
-least-ranks-requires c =
+pub least_ranks-requires : goal.least_ranks-requires
+least_ranks-requires c =
     let es = c.args.table.now in
     let n = c.args.n in
     let m = c.args.m in
-    let rows = c.as-slice.result.now in
-    let a : Agrees es n m rows = subst (λ (xs : List Bool). Agrees es n m xs) (sym c.as-slice.ensures.value) c.in-ok-rows.ensures in
+    let rows = c.as_slice.result.now in
+    let a : Agrees es n m rows = subst (λ (xs : List Bool). Agrees es n m xs) (sym c.as_slice.ensures.value) c.in_ok-rows.ensures in
     record {
       sized = c.requires.sized;
       range = c.requires.range;
       free = no_ring_like (Feeds rows n) (Hands es m) a.only a.each
-          (MatchOption-at_none (NoRing (Feeds rows n)) (λ v. Smallest (Feeds rows n) (vec_items v)) c.in-None.is c.in-ok-ring.ensures);
+          (MatchOption-at_none (NoRing (Feeds rows n)) (λ v. Smallest (Feeds rows n) (vec_items v)) c.in-None.is c.in_ok-ring.ensures);
     }
 
 pub returns : goal.returns
@@ -37,12 +37,12 @@ returns c =
     let es = c.args.table.now in
     let n = c.args.n in
     let m = c.args.m in
-    let rows = c.as-slice.result.now in
-    let a : Agrees es n m rows = subst (λ (xs : List Bool). Agrees es n m xs) (sym c.as-slice.ensures.value) c.in-ok-rows.ensures in
-    let k = c.in-ok-ranks.ensures in
-    let o = c.in-ok-ranks.ranks.ok.0 in
+    let rows = c.as_slice.result.now in
+    let a : Agrees es n m rows = subst (λ (xs : List Bool). Agrees es n m xs) (sym c.as_slice.ensures.value) c.in_ok-rows.ensures in
+    let k = c.in_ok-ranks.ensures in
+    let o = c.in_ok-ranks.ranks.ok.0 in
     let l = k.0 in
-    let z : length (vec_items c.in-ok-ranks.ranks) ≡ c.args.n = omega arith in
-    ranked es n m (vec_items c.in-ok-ranks.ranks)
-    (no_ring_like (Feeds rows n) (Hands es m) a.only a.each (MatchOption-at_none (NoRing (Feeds rows n)) (λ v. Smallest (Feeds rows n) (vec_items v)) c.in-None.is c.in-ok-ring.ensures))
+    let z : length (vec_items c.in_ok-ranks.ranks) ≡ c.args.n = omega arith in
+    ranked es n m (vec_items c.in_ok-ranks.ranks)
+    (no_ring_like (Feeds rows n) (Hands es m) a.only a.each (MatchOption-at_none (NoRing (Feeds rows n)) (λ v. Smallest (Feeds rows n) (vec_items v)) c.in-None.is c.in_ok-ring.ensures))
     z k.1

@@ -13,9 +13,9 @@ loop-raised-smaller c =
     let n = c.args.n in
     let m = c.args.m in
     let z = c.loop-raised.invariant.0.size in
-    let k : length c.lift-all-raised.new.ranks ≡ n = omega arith in
-    let r : Ready es n m c.lift-all-raised.new.ranks = ready_more es n m (Below es m n) c.loop-raised.ranks c.loop-raised.ranks c.lift-all-raised.new.ranks c.lift-all-raised.result c.loop-raised.invariant.0 k c.lift-all-raised.ensures in
-    round_less es n m (Below es m n) c.loop-raised.ranks c.lift-all-raised.new.ranks c.loop-raised.raised c.lift-all-raised.result r c.loop-raised-test.true c.lift-all-raised.ensures
+    let k : length c.lift_all-raised.new.ranks ≡ n = omega arith in
+    let r : Ready es n m c.lift_all-raised.new.ranks = ready_more es n m (Below es m n) c.loop-raised.ranks c.loop-raised.ranks c.lift_all-raised.new.ranks c.lift_all-raised.result c.loop-raised.invariant.0 k c.lift_all-raised.ensures in
+    round_less es n m (Below es m n) c.loop-raised.ranks c.lift_all-raised.new.ranks c.loop-raised.raised c.lift_all-raised.result r c.loop-raised-test.true c.lift_all-raised.ensures
 
 pub loop-raised-preserved : goal.loop-raised-preserved
 loop-raised-preserved c =
@@ -23,9 +23,9 @@ loop-raised-preserved c =
     let n = c.args.n in
     let m = c.args.m in
     let z = c.loop-raised.invariant.0.size in
-    let k : length c.lift-all-raised.new.ranks ≡ n = omega arith in
-    let r : Ready es n m c.lift-all-raised.new.ranks = ready_more es n m (Below es m n) c.loop-raised.ranks c.loop-raised.ranks c.lift-all-raised.new.ranks c.lift-all-raised.result c.loop-raised.invariant.0 k c.lift-all-raised.ensures in
-    (r, (λ f d e h. (c.lift-all-raised.ensures.still f).1 d e (hands_from es n m d e r.sized.table h, h)))
+    let k : length c.lift_all-raised.new.ranks ≡ n = omega arith in
+    let r : Ready es n m c.lift_all-raised.new.ranks = ready_more es n m (Below es m n) c.loop-raised.ranks c.loop-raised.ranks c.lift_all-raised.new.ranks c.lift_all-raised.result c.loop-raised.invariant.0 k c.lift_all-raised.ensures in
+    (r, (λ f d e h. (c.lift_all-raised.ensures.still f).1 d e (hands_from es n m d e r.sized.table h, h)))
 
 pub returns : goal.returns
 returns c =

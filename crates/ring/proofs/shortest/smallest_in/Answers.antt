@@ -33,4 +33,4 @@ returns c =
     let a = c.distances.new.away in
     let l : b.members ≤ c.args.n = c.if-n-best.false in
     let q : get_or a b.low 0 ≡ b.members = members_are H c.args.n b.low b.members a c.distances.ensures l f in
-    smallest_is H c.args.n (λ x y h. h.0) b.low b.members a (vec_items c.in-ok-ring.ring) l q f c.in-ok-ring.ensures
+    smallest_is H c.args.n (λ x y h. h.0) b.low b.members a (vec_items c.in_ok-ring.ring) l q f c.in_ok-ring.ensures

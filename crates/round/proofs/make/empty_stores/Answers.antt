@@ -5,7 +5,7 @@ use Rattle.round.proofs.make.empty_stores.Goals as goal
 
 pub loop-k-preserved : goal.loop-k-preserved
 loop-k-preserved c =
-    let p = c.in-ok-push.ensures in
+    let p = c.in_ok-push.ensures in
     let l = p.len in
     let i = c.loop-k.invariant.0 in
     (omega arith, filled_more items (vec_items c.loop-k.stores) (vec_items c.push.new.self) c.new.result c.loop-k.-k [] c.loop-k.invariant.1 c.new.ensures p.items)

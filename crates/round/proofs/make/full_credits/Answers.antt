@@ -5,7 +5,7 @@ use Rattle.round.proofs.make.full_credits.Goals as goal
 
 pub loop-k-preserved : goal.loop-k-preserved
 loop-k-preserved c =
-    let p = c.in-ok-push.ensures in
+    let p = c.in_ok-push.ensures in
     let l = p.len in
     let i = c.loop-k.invariant.0 in
     let xs = vec_items c.loop-k.credits in

@@ -8,8 +8,8 @@ use Rattle.table.proofs.marks.walk.Goals as goal
 pub loop-link-init : goal.loop-link-init
 loop-link-init c = going_start (graph_by c.args.n c.args.from.now c.args.to.now) (up_by c.args.ups.now) c.args.s c.args.p c.requires.door c.requires.place c.requires.ready.few (c.requires.ready.near c.args.s c.args.p c.requires.door c.requires.place) c.args.met.now
 
-pub entry-of-requires : goal.entry-of-requires
-entry-of-requires c = record { ready = c.requires.ready; below = c.loop-link.invariant.below; place = c.requires.place }
+pub entry_of-requires : goal.entry_of-requires
+entry_of-requires c = record { ready = c.requires.ready; below = c.loop-link.invariant.below; place = c.requires.place }
 
 pub bounds-met-k : goal.bounds-met-k
 bounds-met-k c = there_of (graph_by c.args.n c.args.from.now c.args.to.now) (up_by c.args.ups.now) c.args.p c.loop-link.c c.in-Link.link c.loop-link.met (sym c.in-Link.ensures) (let a = c.requires.size in omega arith)
@@ -34,4 +34,4 @@ loop-link-preserved c =
     going_on (graph_by c.args.n c.args.from.now c.args.to.now) (up_by c.args.ups.now) c.args.s c.args.p c.requires.door c.requires.place c.requires.ready.few (c.requires.ready.near c.args.s c.args.p c.requires.door c.requires.place) c.args.met.now c.loop-link.met c.loop-link.c c.in-Link.link c.loop-link.invariant (sym c.in-Link.ensures) (there_of (graph_by c.args.n c.args.from.now c.args.to.now) (up_by c.args.ups.now) c.args.p c.loop-link.c c.in-Link.link c.loop-link.met (sym c.in-Link.ensures) (let a = c.requires.size in omega arith))
 
 pub returns : goal.returns
-returns c = going_here (graph_by c.args.n c.args.from.now c.args.to.now) (up_by c.args.ups.now) c.args.s c.args.p c.requires.door c.requires.place c.requires.ready.few (c.requires.ready.near c.args.s c.args.p c.requires.door c.requires.place) c.args.met.now c.loop-link.met c.loop-link.c c.loop-link.invariant (sym c.in-default.ensures)
+returns c = going_here (graph_by c.args.n c.args.from.now c.args.to.now) (up_by c.args.ups.now) c.args.s c.args.p c.requires.door c.requires.place c.requires.ready.few (c.requires.ready.near c.args.s c.args.p c.requires.door c.requires.place) c.args.met.now c.loop-link.met c.loop-link.c c.loop-link.invariant (sym c.in_default.ensures)

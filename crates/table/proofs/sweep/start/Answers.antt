@@ -6,11 +6,11 @@ use Rattle.table.proofs.sweep.start.Goals as goal
 pub overflow-shl-sets : goal.overflow-shl-sets
 overflow-shl-sets c =
     let s = state_small c.args.n c.loop-i.i (omega arith) in
-    let q : c.switch-of.result ≡ (state_of c.args.n c.loop-i.i).1 = c.switch-of.ensures in
+    let q : c.switch_of.result ≡ (state_of c.args.n c.loop-i.i).1 = c.switch_of.ensures in
     omega arith
 
 pub loop-i-preserved : goal.loop-i-preserved
 loop-i-preserved c =
     let s = state_small c.args.n c.loop-i.i (omega arith) in
-    let q : c.switch-of.result ≡ (state_of c.args.n c.loop-i.i).1 = c.switch-of.ensures in
-    started_more c.args.n c.loop-i.sets c.loop-i.i c.switch-of.result (omega arith) (omega arith) q c.loop-i.invariant
+    let q : c.switch_of.result ≡ (state_of c.args.n c.loop-i.i).1 = c.switch_of.ensures in
+    started_more c.args.n c.loop-i.sets c.loop-i.i c.switch_of.result (omega arith) (omega arith) q c.loop-i.invariant

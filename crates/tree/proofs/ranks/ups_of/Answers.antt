@@ -8,7 +8,7 @@ use Rattle.tree.proofs.ranks.ups_of.Goals as goal
 pub loop-k-preserved : goal.loop-k-preserved
 loop-k-preserved c =
     more_of (goes_up (graph_by (length c.args.levels.now) c.args.from.now c.args.to.now) (level_by c.args.levels.now)) c.loop-k.k
-    (vec_items c.loop-k.ups) _ c.above.result c.loop-k.invariant c.above.ensures c.in-ok-push.ensures.items
+    (vec_items c.loop-k.ups) _ c.above.result c.loop-k.invariant c.above.ensures c.in_ok-push.ensures.items
 
 pub returns : goal.returns
 returns c =

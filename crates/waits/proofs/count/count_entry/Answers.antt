@@ -4,8 +4,8 @@ use Rattle.waits.proofs.Feeding.{counted_here, counted_over, count_small}
 use Rattle.waits.proofs.Plans.{plan_link}
 use Rattle.waits.proofs.count.count_entry.Goals as goal
 
-pub count-once-requires : goal.count-once-requires
-count-once-requires c =
+pub count_once-requires : goal.count_once-requires
+count_once-requires c =
     let m = c.args.plan.now in
     let k = c.requires.1 in
     let l : c.in-Link.e < m.layout.links = plan_link m c.args.c c.args.p c.in-Link.e (sym c.in-Link.ensures) in
@@ -21,7 +21,7 @@ returns-in-Link c =
     let q = sym c.in-Link.ensures in
     let l : c.in-Link.e < m.layout.links = plan_link m c.args.c c.args.p c.in-Link.e q in
     let k = counted_over (net_of m.layout) c.args.c c.args.p c.in-Link.e c.args.counts.now c.args.marks.now l q c.requires.1 in
-    rw (c.count-once.ensures.number, c.count-once.ensures.marked) k
+    rw (c.count_once.ensures.number, c.count_once.ensures.marked) k
 
 pub returns-in-Here : goal.returns-in-Here
 returns-in-Here c =

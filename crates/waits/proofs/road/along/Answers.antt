@@ -13,8 +13,8 @@ loop-e-init c =
     let k = higher_most (net_of c.args.plan.now.layout) c.args.c in
     record { there = c.requires.0; left = omega arith; small = omega arith }
 
-pub full-store-sum-requires : goal.full-store-sum-requires
-full-store-sum-requires c =
+pub full_store-sum-requires : goal.full_store-sum-requires
+full_store-sum-requires c =
     let m = c.args.plan.now in
     let q = told m c.loop-e.at c.args.p (Link c.in-Link.e) c.in-Link.ensures in
     let l : c.in-Link.e < m.layout.links = plan_link m c.loop-e.at c.args.p c.in-Link.e q in
@@ -25,7 +25,7 @@ full-store-sum-requires c =
 
 pub overflow-add-sum : goal.overflow-add-sum
 overflow-add-sum c =
-    let k = c.full-store-sum.ensures.small in
+    let k = c.full_store-sum.ensures.small in
     let f = c.args.plan.now.few in
     let v = c.loop-e.invariant.small in
     omega arith
@@ -47,13 +47,13 @@ loop-e-preserved c =
     let s = c.requires.1.short c.in-Link.e d in
     let k = walk_step z (plan_good m) m.most c.args.c c.args.p c.loop-e.at c.in-Link.e c.loop-e.sum
     (get_or c.args.found.now c.in-Link.e 0) q r (omega arith) c.loop-e.invariant in
-    subst (λ (x : ℕ). Walked z c.args.c c.args.p c.in-Link.e (c.loop-e.sum + x)) (sym c.full-store-sum.ensures.is) k
+    subst (λ (x : ℕ). Walked z c.args.c c.args.p c.in-Link.e (c.loop-e.sum + x)) (sym c.full_store-sum.ensures.is) k
 
 pub returns : goal.returns
 returns c =
     let m = c.args.plan.now in
     let e = rest_here (net_of m.layout) (plan_good m) c.loop-e.at c.args.p
-    (told m c.loop-e.at c.args.p Here c.in-default.ensures) in
+    (told m c.loop-e.at c.args.p Here c.in_default.ensures) in
     let v = c.loop-e.invariant.left in
     let u = c.loop-e.invariant.small in
     let f = m.few in

@@ -6,8 +6,8 @@ use Rattle.waits.specs.Working.{longest, Partly, Stays}
 use Rattle.waits.proofs.Fuel.{higher}
 use Rattle.waits.proofs.work.+work_out.Given as goal
 
-abbrev pub decreases-work-out : goal.decreases-work-out
-decreases-work-out l = higher (net_of l.plan.now.layout) l.c
+abbrev pub decreases-work_out : goal.decreases-work_out
+decreases-work_out l = higher (net_of l.plan.now.layout) l.c
 
 abbrev pub invariant-loop-p : goal.invariant-loop-p
 invariant-loop-p l =

@@ -7,22 +7,22 @@ use Rattle.wire.specs.Cables.{cable_by}
 use Rattle.wire.proofs.Rows.{Reading, reading_more, reading_stops, reading_all, reading_extra}
 use Rattle.wire.proofs.cables.cables_from.Goals as goal
 
-pub returns-in-err-cable : goal.returns-in-err-cable
-returns-in-err-cable c =
-    let p = err_from_is_err_and c.from-residual.result c.from-residual.ensures.1 in
+pub returns-in_err-cable : goal.returns-in_err-cable
+returns-in_err-cable c =
+    let p = err_from_is_err_and c.from_residual.result c.from_residual.ensures.1 in
     rw (p.1, p.2)
     (reading_stops (cable_by c.args.switches) 5 c.args.count c.loop-k.k c.args.bytes.now
-    (vec_items c.loop-k.cables) _ (omega arith) c.loop-k.invariant c.in-err-cable.ensures)
+    (vec_items c.loop-k.cables) _ (omega arith) c.loop-k.invariant c.in_err-cable.ensures)
 
 pub loop-k-preserved : goal.loop-k-preserved
 loop-k-preserved c =
     subst
     (λ (xs : List Cable).
     Reading (cable_by c.args.switches) 5 c.args.count (c.loop-k.k + 1) c.args.bytes.now xs)
-    (sym (pushed (c.in-ok-cable.cable ∷ []) refl c.in-ok-push.was c.push.ensures.items))
+    (sym (pushed (c.in_ok-cable.cable ∷ []) refl c.in_ok-push.was c.push.ensures.items))
     (reading_more (cable_by c.args.switches) 5 c.args.count c.loop-k.k c.args.bytes.now
-    (vec_items c.loop-k.cables) c.in-ok-cable.cable (omega arith) c.loop-k.invariant
-    c.in-ok-cable.ensures)
+    (vec_items c.loop-k.cables) c.in_ok-cable.cable (omega arith) c.loop-k.invariant
+    c.in_ok-cable.ensures)
 
 pub returns-then-end-bytes : goal.returns-then-end-bytes
 returns-then-end-bytes c =

@@ -9,34 +9,34 @@ pub returns-then-at-bytes : goal.returns-then-at-bytes
 returns-then-at-bytes c =
     record { is = sym (no_thing c.args.at c.args.bytes.now (omega arith)); on = refl }
 
-pub returns-then-left-lt-BLOCK-SIZE : goal.returns-then-left-lt-BLOCK-SIZE
-returns-then-left-lt-BLOCK-SIZE c =
+pub returns-then-left-lt-BLOCK_SIZE : goal.returns-then-left-lt-BLOCK_SIZE
+returns-then-left-lt-BLOCK_SIZE c =
     record {
       is = sym (cut_block c.args.at c.args.bytes.now (omega arith) (omega arith) (omega arith));
       on = refl;
     }
 
-pub returns-then-left-lt-WORD-SIZE : goal.returns-then-left-lt-WORD-SIZE
-returns-then-left-lt-WORD-SIZE c =
+pub returns-then-left-lt-WORD_SIZE : goal.returns-then-left-lt-WORD_SIZE
+returns-then-left-lt-WORD_SIZE c =
     record {
       is = sym (cut_word c.args.at c.args.bytes.now (omega arith) (omega arith) (omega arith));
       on = refl;
     }
 
-pub returns-else-left-lt-BLOCK-SIZE : goal.returns-else-left-lt-BLOCK-SIZE
-returns-else-left-lt-BLOCK-SIZE c =
+pub returns-else-left-lt-BLOCK_SIZE : goal.returns-else-left-lt-BLOCK_SIZE
+returns-else-left-lt-BLOCK_SIZE c =
     record {
       is =
-          ap (λ (b : Parcel). Ok (Block b, c.args.at + 7)) c.block-at.ensures
+          ap (λ (b : Parcel). Ok (Block b, c.args.at + 7)) c.block_at.ensures
           ∙ sym (whole_block c.args.at c.args.bytes.now (omega arith) (omega arith));
       on = (omega arith, omega arith);
     }
 
-pub returns-else-left-lt-WORD-SIZE : goal.returns-else-left-lt-WORD-SIZE
-returns-else-left-lt-WORD-SIZE c =
+pub returns-else-left-lt-WORD_SIZE : goal.returns-else-left-lt-WORD_SIZE
+returns-else-left-lt-WORD_SIZE c =
     record {
       is =
-          ap (λ (l : ℕ). Ok (Word l, c.args.at + 3)) c.word-at.ensures
+          ap (λ (l : ℕ). Ok (Word l, c.args.at + 3)) c.word_at.ensures
           ∙ sym (whole_word c.args.at c.args.bytes.now (omega arith) (omega arith));
       on = (omega arith, omega arith);
     }
@@ -55,8 +55,8 @@ returns-in-6 c =
       on = (omega arith, omega arith);
     }
 
-pub returns-in-default : goal.returns-in-default
-returns-in-default c =
+pub returns-in_default : goal.returns-in_default
+returns-in_default c =
     record {
       is =
           sym

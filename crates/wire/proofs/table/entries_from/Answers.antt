@@ -7,22 +7,22 @@ use Rattle.wire.specs.Tables.{entry_of}
 use Rattle.wire.proofs.Rows.{Reading, reading_more, reading_stops, reading_all, reading_extra}
 use Rattle.wire.proofs.table.entries_from.Goals as goal
 
-pub returns-in-err-entry : goal.returns-in-err-entry
-returns-in-err-entry c =
-    let p = err_from_is_err_and c.from-residual.result c.from-residual.ensures.1 in
+pub returns-in_err-entry : goal.returns-in_err-entry
+returns-in_err-entry c =
+    let p = err_from_is_err_and c.from_residual.result c.from_residual.ensures.1 in
     rw (p.1, p.2)
     (reading_stops (entry_of c.args.channels) 4 c.args.count c.loop-k.k c.args.bytes.now
-    (vec_items c.loop-k.entries) _ (omega arith) c.loop-k.invariant c.in-err-entry.ensures)
+    (vec_items c.loop-k.entries) _ (omega arith) c.loop-k.invariant c.in_err-entry.ensures)
 
 pub loop-k-preserved : goal.loop-k-preserved
 loop-k-preserved c =
     subst
     (λ (xs : List Entry).
     Reading (entry_of c.args.channels) 4 c.args.count (c.loop-k.k + 1) c.args.bytes.now xs)
-    (sym (pushed (c.in-ok-entry.entry ∷ []) refl c.in-ok-push.was c.push.ensures.items))
+    (sym (pushed (c.in_ok-entry.entry ∷ []) refl c.in_ok-push.was c.push.ensures.items))
     (reading_more (entry_of c.args.channels) 4 c.args.count c.loop-k.k c.args.bytes.now
-    (vec_items c.loop-k.entries) c.in-ok-entry.entry (omega arith) c.loop-k.invariant
-    c.in-ok-entry.ensures)
+    (vec_items c.loop-k.entries) c.in_ok-entry.entry (omega arith) c.loop-k.invariant
+    c.in_ok-entry.ensures)
 
 pub returns-then-end-bytes : goal.returns-then-end-bytes
 returns-then-end-bytes c =

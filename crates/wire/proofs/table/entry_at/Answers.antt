@@ -11,10 +11,10 @@ returns-then-bytes-at c =
 
 pub returns-in-Ok : goal.returns-in-Ok
 returns-in-Ok c =
-    ap (placed c.args.at) (c.in-Ok.ensures ∙ ap (entry_by_bytes c.args.channels) c.word-of.ensures)
+    ap (placed c.args.at) (c.in-Ok.ensures ∙ ap (entry_by_bytes c.args.channels) c.word_of.ensures)
     ∙ sym (pair_whole (entry_of c.args.channels) c.args.at c.args.bytes.now (omega arith))
 
 pub returns-in-Err : goal.returns-in-Err
 returns-in-Err c =
-    ap (placed c.args.at) (c.in-Err.ensures ∙ ap (entry_by_bytes c.args.channels) c.word-of.ensures)
+    ap (placed c.args.at) (c.in-Err.ensures ∙ ap (entry_by_bytes c.args.channels) c.word_of.ensures)
     ∙ sym (pair_whole (entry_of c.args.channels) c.args.at c.args.bytes.now (omega arith))

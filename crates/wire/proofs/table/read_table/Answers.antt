@@ -3,6 +3,6 @@ use Rattle.std.proofs.Common.{rules}
 use Rattle.wire.proofs.TableLaws.{table_shaped}
 use Rattle.wire.proofs.table.read_table.Goals as goal
 
-pub returns-in-ok-entries : goal.returns-in-ok-entries
-returns-in-ok-entries c =
+pub returns-in_ok-entries : goal.returns-in_ok-entries
+returns-in_ok-entries c =
     record { is = search rules; shaped = table_shaped c.args.bytes.now _ (search rules) }

@@ -6,4 +6,4 @@ use Rattle.net.proofs.plan.Plan.new.Goals as goal
 pub returns-in-Ok : goal.returns-in-Ok
 returns-in-Ok c =
     let s : Sized c.args.layout = c.sized.ensures.0 c.if-not-sized.false in
-    (refl, s, good c.args.layout s.some c.in-default.ensures)
+    (refl, s, good c.args.layout s.some c.in_default.ensures)

@@ -9,8 +9,8 @@ use Rattle.round.proofs.Sizes.{in_links, in_frees, in_turns}
 use Rattle.round.proofs.States.{come_in}
 use Rattle.round.proofs.fabric.Fabric.arrive.Goals as goal
 
-pub push-store-requires : goal.push-store-requires
-push-store-requires c =
+pub push_store-requires : goal.push_store-requires
+push_store-requires c =
     let f = c.args.self.now in
     let l = c.args.plan.now.layout in
     let ls = map items (vec_items f.links) in
@@ -26,15 +26,15 @@ returns c =
     record {
       after = come_in (net_of l) e c.args.c c.args.block (map items (vec_items f.links)) (map deque_items (vec_items f.doors))
           (frees f) (vec_items f.turns) (vec_items f.came) f.rounds
-          (map items (vec_items c.push-store.new.links)) (map credit_free (vec_items c.spend-at.new.credits)) (set (vec_items f.turns) e c.following.result)
-          c.push-store.ensures.after c.spend-at.ensures.free (ap (λ (x : ℕ). set (vec_items f.turns) e x) c.following.ensures)
+          (map items (vec_items c.push_store.new.links)) (map credit_free (vec_items c.spend_at.new.credits)) (set (vec_items f.turns) e c.following.result)
+          c.push_store.ensures.after c.spend_at.ensures.free (ap (λ (x : ℕ). set (vec_items f.turns) e x) c.following.ensures)
           (in_links l f c.requires.fitted e c.requires.link) (in_frees l f c.requires.fitted e c.requires.link) (in_turns l f c.requires.fitted e c.requires.link);
       fitted = record {
-        links = c.push-store.ensures.len ∙ c.requires.fitted.links;
+        links = c.push_store.ensures.len ∙ c.requires.fitted.links;
         doors = c.requires.fitted.doors;
-        credits = c.spend-at.ensures.len ∙ c.requires.fitted.credits;
+        credits = c.spend_at.ensures.len ∙ c.requires.fitted.credits;
         turns = c.requires.fitted.turns;
-        sizes = λ k m. ap (λ (w : List ℕ). get_or w k 0) c.spend-at.ensures.all ∙ c.requires.fitted.sizes k m;
+        sizes = λ k m. ap (λ (w : List ℕ). get_or w k 0) c.spend_at.ensures.all ∙ c.requires.fitted.sizes k m;
       };
       came = refl;
     }

@@ -24,7 +24,7 @@ returns-in-Some c =
     let m : c.len-2.result ≤ c.args.c = omega arith in
     let here : c.args.c - c.len-2.result < length (vec_items f.doors) = rw ds at i.3.0 in
     let at : c.in-Some.waiting.now ≡ get_or (vec_items f.doors) (c.args.c - c.len-2.result) c.in-Some.waiting.now = rw ds at i.1 in
-    c.front-of.ensures ∙ ap head_of (sym (
+    c.front_of.ensures ∙ ap head_of (sym (
     behind_read (map items (vec_items f.links)) (map deque_items (vec_items f.doors)) c.args.c c.len-2.result [] n m ∙
     mapped_read deque_items (vec_items f.doors) (c.args.c - c.len-2.result) c.in-Some.waiting.now [] here at))
 

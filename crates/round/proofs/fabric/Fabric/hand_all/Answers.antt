@@ -10,8 +10,8 @@ pub loop-c-init : goal.loop-c-init
 unfolding all_handed
 loop-c-init c = (refl, c.requires.fitted, let r = c.requires.room in omega arith)
 
-pub hand-over-requires : goal.hand-over-requires
-hand-over-requires c =
+pub hand_over-requires : goal.hand_over-requires
+hand_over-requires c =
     let p = c.args.plan.now in
     record {
       fitted = c.loop-c.invariant.1;

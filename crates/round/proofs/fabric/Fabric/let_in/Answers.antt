@@ -16,11 +16,11 @@ returns c =
     let m : length bs ≡ l.doors = length-map (vec_items f.doors) deque_items ∙ sym f.doors.ok.0 ∙ c.requires.fitted.doors in
     let d = c.requires.door in
     record {
-      after = let_in (net_of l) c.args.block ls bs (frees f) (vec_items f.turns) (vec_items f.came) f.rounds c.push-door.result
-          (map deque_items (vec_items c.push-door.new.doors)) c.push-door.ensures.after n (omega arith);
+      after = let_in (net_of l) c.args.block ls bs (frees f) (vec_items f.turns) (vec_items f.came) f.rounds c.push_door.result
+          (map deque_items (vec_items c.push_door.new.doors)) c.push_door.ensures.after n (omega arith);
       fitted = record {
         links = c.requires.fitted.links;
-        doors = c.push-door.ensures.len ∙ c.requires.fitted.doors;
+        doors = c.push_door.ensures.len ∙ c.requires.fitted.doors;
         credits = c.requires.fitted.credits;
         turns = c.requires.fitted.turns;
         sizes = c.requires.fitted.sizes;

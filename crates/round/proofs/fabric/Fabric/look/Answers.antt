@@ -34,7 +34,7 @@ returns-then-wants c =
     let q = turn_is l f c.requires.fitted c.args.e t c.requires.link c.index.ensures in
     let n = l.links + l.doors in
     sym (in_half (net_of l) c.args.e (λ k. get_or (queues f) k []) t n c.loop-c.c c.look.half
-    c.half-from-from.result.0 c.half-from-from.result.1 refl (let w = c.requires.turned in omega arith)
-    c.half-from-from.ensures.from c.half-from-from.ensures.to c.loop-c.auto.c c.loop-c-test.true
+    c.half_from-from.result.0 c.half_from-from.result.1 refl (let w = c.requires.turned in omega arith)
+    c.half_from-from.ensures.from c.half_from-from.ensures.to c.loop-c.auto.c c.loop-c-test.true
     c.loop-c.invariant.1 c.look.invariant.1 (sym c.if-wants.ensures)) ∙
     ap (λ (i : ℕ). look (net_of l) c.args.e (λ k. get_or (queues f) k []) i n) q

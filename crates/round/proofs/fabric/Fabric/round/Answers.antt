@@ -6,8 +6,8 @@ use Rattle.round.specs.Fabric.{Steady, state_of}
 use Rattle.round.proofs.Stays.{steady_handed}
 use Rattle.round.proofs.fabric.Fabric.round.Goals as goal
 
-pub serve-all-requires : goal.serve-all-requires
-serve-all-requires c =
+pub serve_all-requires : goal.serve_all-requires
+serve_all-requires c =
     let p = c.args.plan.now in
     let z = net_of p.layout in
     record {

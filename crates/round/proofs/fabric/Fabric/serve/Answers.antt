@@ -20,5 +20,5 @@ send-requires c =
       link = c.requires.link;
       within = w.0;
       held = omega arith;
-      credit = ltb-true 0 (get_or (frees f) c.args.e 0) (sym c.has-credit.ensures ∙ c.if-not-has-credit.false);
+      credit = ltb-true 0 (get_or (frees f) c.args.e 0) (sym c.has_credit.ensures ∙ c.if-not-has_credit.false);
     }

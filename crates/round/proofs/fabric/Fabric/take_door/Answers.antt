@@ -17,12 +17,12 @@ returns c =
     let n : l.links ≡ length ls = sym c.requires.fitted.links ∙ f.links.ok.0 ∙ sym (length-map (vec_items f.links) items) in
     let m : length bs ≡ l.doors = length-map (vec_items f.doors) deque_items ∙ sym f.doors.ok.0 ∙ c.requires.fitted.doors in
     record {
-      first = c.pop-door.ensures.first ∙ ap head_of (sym (behind_read ls bs c.args.c l.links [] n c.requires.door));
+      first = c.pop_door.ensures.first ∙ ap head_of (sym (behind_read ls bs c.args.c l.links [] n c.requires.door));
       after = door_left (net_of l) c.args.c ls bs (frees f) (vec_items f.turns) (vec_items f.came) f.rounds
-          c.pop-door.result (map deque_items (vec_items c.pop-door.new.doors)) c.pop-door.ensures.after c.pop-door.ensures.first n c.requires.door (omega arith);
+          c.pop_door.result (map deque_items (vec_items c.pop_door.new.doors)) c.pop_door.ensures.after c.pop_door.ensures.first n c.requires.door (omega arith);
       fitted = record {
         links = c.requires.fitted.links;
-        doors = c.pop-door.ensures.len ∙ c.requires.fitted.doors;
+        doors = c.pop_door.ensures.len ∙ c.requires.fitted.doors;
         credits = c.requires.fitted.credits;
         turns = c.requires.fitted.turns;
         sizes = c.requires.fitted.sizes;

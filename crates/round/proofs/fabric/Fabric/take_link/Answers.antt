@@ -11,20 +11,20 @@ use Rattle.round.proofs.Sizes.{in_links, in_frees}
 use Rattle.round.proofs.States.{link_left, none_taken, some_held}
 use Rattle.round.proofs.fabric.Fabric.take_link.Goals as goal
 
-pub returns-in-default : goal.returns-in-default
-returns-in-default c =
+pub returns-in_default : goal.returns-in_default
+returns-in_default c =
     let f = c.args.self.now in
     let l = c.args.plan.now.layout in
     let ls = map items (vec_items f.links) in
     let bs = map deque_items (vec_items f.doors) in
     let h : c.args.c < length ls = in_links l f c.requires.fitted c.args.c c.requires.within in
-    let e = c.in-default.ensures.first in
+    let e = c.in_default.ensures.first in
     record {
       first = e ∙ ap head_of (sym (front_read ls bs c.args.c [] h));
       after = ap (λ (w : List (List Block)). listed (w ++ bs) (frees f) (vec_items f.turns) (vec_items f.came) f.rounds)
-          (c.pop-store.ensures.after ∙ none_taken c.args.c ls (sym e));
+          (c.pop_store.ensures.after ∙ none_taken c.args.c ls (sym e));
       fitted = record {
-        links = c.pop-store.ensures.len ∙ c.requires.fitted.links;
+        links = c.pop_store.ensures.len ∙ c.requires.fitted.links;
         doors = c.requires.fitted.doors;
         credits = c.requires.fitted.credits;
         turns = c.requires.fitted.turns;
@@ -33,8 +33,8 @@ returns-in-default c =
       came = refl;
     }
 
-pub gain-at-requires : goal.gain-at-requires
-gain-at-requires c =
+pub gain_at-requires : goal.gain_at-requires
+gain_at-requires c =
     let f = c.args.self.now in
     let l = c.args.plan.now.layout in
     let ls = map items (vec_items f.links) in
@@ -58,14 +58,14 @@ returns c =
     record {
       first = e ∙ ap head_of (sym (front_read ls bs c.args.c [] h));
       after = link_left (net_of l) c.args.c ls bs (frees f) (vec_items f.turns) (vec_items f.came) f.rounds
-          (map items (vec_items c.pop-store.new.links)) (map credit_free (vec_items c.gain-at.new.credits))
-          c.pop-store.ensures.after c.gain-at.ensures.free h i c.requires.within;
+          (map items (vec_items c.pop_store.new.links)) (map credit_free (vec_items c.gain_at.new.credits))
+          c.pop_store.ensures.after c.gain_at.ensures.free h i c.requires.within;
       fitted = record {
-        links = c.pop-store.ensures.len ∙ c.requires.fitted.links;
+        links = c.pop_store.ensures.len ∙ c.requires.fitted.links;
         doors = c.requires.fitted.doors;
-        credits = c.gain-at.ensures.len ∙ c.requires.fitted.credits;
+        credits = c.gain_at.ensures.len ∙ c.requires.fitted.credits;
         turns = c.requires.fitted.turns;
-        sizes = λ e m. ap (λ (w : List ℕ). get_or w e 0) c.gain-at.ensures.all ∙ c.requires.fitted.sizes e m;
+        sizes = λ e m. ap (λ (w : List ℕ). get_or w e 0) c.gain_at.ensures.all ∙ c.requires.fitted.sizes e m;
       };
       came = refl;
     }

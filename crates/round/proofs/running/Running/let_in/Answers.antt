@@ -16,7 +16,7 @@ invariant-of-self c =
     let g = c.args.self.now in
     let z = net_in g in
     let f = c.let_in.ensures.fitted in
-    let w = c.in-default.ensures in (
+    let w = c.in_default.ensures in (
       f.links,
       (
         f.doors,
@@ -33,28 +33,28 @@ invariant-of-self c =
       ),
     )
 
-pub returns-then-let-in : goal.returns-then-let-in
-returns-then-let-in c =
+pub returns-then-let_in : goal.returns-then-let_in
+returns-then-let_in c =
     let g = c.args.self.now in
     let z = net_in g in
-    let w = c.in-default.ensures in
+    let w = c.in_default.ensures in
     record {
       answer = w;
       plan = refl;
-      after = c.if-let-in.ensures.after;
+      after = c.if-let_in.ensures.after;
       kept = kept z (plan_good g.plan) (state_of c.let_in.new.self)
           (perhaps z (Enter c.args.block) (state_in g) (state_of c.let_in.new.self) c.let_in.result (this_enters z c.args.block w.0 w.1) c.let_in.ensures.after g.past);
     }
 
-pub returns-else-let-in : goal.returns-else-let-in
-returns-else-let-in c =
+pub returns-else-let_in : goal.returns-else-let_in
+returns-else-let_in c =
     let g = c.args.self.now in
     let z = net_in g in
-    let w = c.in-default.ensures in
+    let w = c.in_default.ensures in
     record {
       answer = w;
       plan = refl;
-      after = c.if-let-in.ensures.after;
+      after = c.if-let_in.ensures.after;
       kept = kept z (plan_good g.plan) (state_of c.let_in.new.self)
           (perhaps z (Enter c.args.block) (state_in g) (state_of c.let_in.new.self) c.let_in.result (this_enters z c.args.block w.0 w.1) c.let_in.ensures.after g.past);
     }
