@@ -7,7 +7,7 @@ import os
 import re
 import sys
 
-WORDS = {"in_ok", "in_err", "in_default", "in_for", "from_residual", "with_capacity", "as_slice", "as_mut_slice", "unwrap_or", "copy_from_slice", "type_inv"}
+WORDS = {"index_mut", "index_set", "deref_mut", "overflow_add", "overflow_sub", "overflow_mul", "overflow_shl", "overflow_shr", "overflow_neg", "invariant_of", "in_ok", "in_err", "in_default", "in_for", "from_residual", "with_capacity", "as_slice", "as_mut_slice", "unwrap_or", "copy_from_slice", "type_inv"}
 
 
 def texts(folder, end):

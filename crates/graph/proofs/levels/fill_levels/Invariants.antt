@@ -8,5 +8,5 @@ use Rattle.graph.proofs.levels.fill_levels.Given as goal
 
 abbrev pub invariant-loop-j : goal.invariant-loop-j
 invariant-loop-j l =
-    (Reached (graph_by (length l.sets) l.from l.to) l.-j l.sets) ×
-    ((s : ℕ) → s < length l.sets → Least (λ i. within (plain (graph_by (length l.sets) l.from l.to)) (at l.root) i s) l.-j (get_or l.levels s 0))
+    (Reached (graph_by (length l.sets) l.from l.to) l._j l.sets) ×
+    ((s : ℕ) → s < length l.sets → Least (λ i. within (plain (graph_by (length l.sets) l.from l.to)) (at l.root) i s) l._j (get_or l.levels s 0))

@@ -39,10 +39,10 @@ returns c =
     let m = c.args.m in
     let rows = c.as_slice.result.now in
     let a : Agrees es n m rows = subst (λ (xs : List Bool). Agrees es n m xs) (sym c.as_slice.ensures.value) c.in_ok-rows.ensures in
-    let k = c.in_ok-ranks.ensures in
-    let o = c.in_ok-ranks.ranks.ok.0 in
+    let k = c.in_ok-ranks-in-None.ensures in
+    let o = c.in_ok-ranks-in-None.ranks.ok.0 in
     let l = k.0 in
-    let z : length (vec_items c.in_ok-ranks.ranks) ≡ c.args.n = omega arith in
-    ranked es n m (vec_items c.in_ok-ranks.ranks)
+    let z : length (vec_items c.in_ok-ranks-in-None.ranks) ≡ c.args.n = omega arith in
+    ranked es n m (vec_items c.in_ok-ranks-in-None.ranks)
     (no_ring_like (Feeds rows n) (Hands es m) a.only a.each (MatchOption-at_none (NoRing (Feeds rows n)) (λ v. Smallest (Feeds rows n) (vec_items v)) c.in-None.is c.in_ok-ring.ensures))
     z k.1

@@ -8,12 +8,12 @@ use Rattle.ring.proofs.square.square.Goals as goal
 pub mark_all-requires : goal.mark_all-requires
 mark_all-requires c =
     let k = c.args.n * c.args.n in
-    let q : c.deref-mut.result.now ≡ replicate k false = c.deref-mut.ensures.value ∙ c.in_ok-rows.ensures.items-if-clones-equal (λ y h. h) in
+    let q : c.deref_mut.result.now ≡ replicate k false = c.deref_mut.ensures.value ∙ c.in_ok-rows.ensures.items_if_clones_equal (λ y h. h) in
     record {
-      square = (let l = c.deref-mut.ensures.len in let w = c.in_ok-rows.ensures.len in omega arith);
+      square = (let l = c.deref_mut.ensures.len in let w = c.in_ok-rows.ensures.len in omega arith);
       sized = c.requires.sized;
       range = c.requires.range;
-      before = none_marked c.args.table.now c.args.n c.args.m c.deref-mut.result.now (λ i. ap (λ (xs : List Bool). get_or xs i false) q ∙ all_same k i false);
+      before = none_marked c.args.table.now c.args.n c.args.m c.deref_mut.result.now (λ i. ap (λ (xs : List Bool). get_or xs i false) q ∙ all_same k i false);
     }
 
 pub returns : goal.returns

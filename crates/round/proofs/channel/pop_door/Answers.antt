@@ -9,7 +9,7 @@ returns c =
     let n = v.ok.0 in
     let h : c.args.d < length (vec_items v) = omega (arith, n, c.requires) in
     record {
-      first = c.pop_first.ensures.first ∙ ap head_of (sym (mapped_read deque_items (vec_items v) c.args.d c.index-mut.result.now [] h c.index-mut.ensures.value));
-      after = mapped_write deque_items (vec_items v) c.args.d c.index-mut.result.now c.pop_first.new.waiting tail_of [] h c.index-mut.ensures.value c.pop_first.ensures.after;
+      first = c.pop_first.ensures.first ∙ ap head_of (sym (mapped_read deque_items (vec_items v) c.args.d c.index_mut.result.now [] h c.index_mut.ensures.value));
+      after = mapped_write deque_items (vec_items v) c.args.d c.index_mut.result.now c.pop_first.new.waiting tail_of [] h c.index_mut.ensures.value c.pop_first.ensures.after;
       len = refl;
     }

@@ -10,7 +10,7 @@ returns c =
     let n = v.ok.0 in
     let h : c.args.e < length (vec_items v) = omega (arith, n, c.requires) in
     record {
-      first = c.pop.ensures.oldest ∙ ap head_of (sym (mapped_read items (vec_items v) c.args.e c.index-mut.result.now [] h c.index-mut.ensures.value));
-      after = mapped_write items (vec_items v) c.args.e c.index-mut.result.now c.pop.new.self tail_of [] h c.index-mut.ensures.value c.pop.ensures.after;
+      first = c.pop.ensures.oldest ∙ ap head_of (sym (mapped_read items (vec_items v) c.args.e c.index_mut.result.now [] h c.index_mut.ensures.value));
+      after = mapped_write items (vec_items v) c.args.e c.index_mut.result.now c.pop.new.self tail_of [] h c.index_mut.ensures.value c.pop.ensures.after;
       len = refl;
     }

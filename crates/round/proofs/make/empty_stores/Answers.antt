@@ -8,4 +8,4 @@ loop-k-preserved c =
     let p = c.in_ok-push.ensures in
     let l = p.len in
     let i = c.loop-k.invariant.0 in
-    (omega arith, filled_more items (vec_items c.loop-k.stores) (vec_items c.push.new.self) c.new.result c.loop-k.-k [] c.loop-k.invariant.1 c.new.ensures p.items)
+    (omega arith, filled_more items (vec_items c.loop-k.stores) (vec_items c.push.new.self) c.new.result c.loop-k._k [] c.loop-k.invariant.1 c.new.ensures p.items)

@@ -7,4 +7,4 @@ loop-k-preserved c =
     let p = c.in_ok-push.ensures in
     let l = p.len in
     let i = c.loop-k.invariant.0 in
-    (omega arith, p.items ∙ ap (λ (us : List ℕ). us ++ (0 ∷ [])) c.loop-k.invariant.1 ∙ replicate_more c.loop-k.-k 0)
+    (omega arith, p.items ∙ ap (λ (us : List ℕ). us ++ (0 ∷ [])) c.loop-k.invariant.1 ∙ replicate_more c.loop-k._k 0)

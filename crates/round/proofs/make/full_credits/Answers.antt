@@ -11,6 +11,6 @@ loop-k-preserved c =
     let xs = vec_items c.loop-k.credits in
     let ys = vec_items c.push.new.self in (
       omega arith,
-      filled_more credit_free xs ys c.full.result c.loop-k.-k c.args.room c.loop-k.invariant.1 c.full.ensures.0 p.items,
-      filled_more credit_all xs ys c.full.result c.loop-k.-k c.args.room c.loop-k.invariant.2 c.full.ensures.1 p.items,
+      filled_more credit_free xs ys c.full.result c.loop-k._k c.args.room c.loop-k.invariant.1 c.full.ensures.0 p.items,
+      filled_more credit_all xs ys c.full.result c.loop-k._k c.args.room c.loop-k.invariant.2 c.full.ensures.1 p.items,
     )

@@ -4,5 +4,5 @@ use Rattle.round.proofs.make.full_credits.Given as goal
 
 abbrev pub invariant-loop-k : goal.invariant-loop-k
 invariant-loop-k l =
-    (vec_len l.credits ≡ l.-k) × (map credit_free (vec_items l.credits) ≡ replicate l.-k l.room) ×
-    (map credit_all (vec_items l.credits) ≡ replicate l.-k l.room)
+    (vec_len l.credits ≡ l._k) × (map credit_free (vec_items l.credits) ≡ replicate l._k l.room) ×
+    (map credit_all (vec_items l.credits) ≡ replicate l._k l.room)

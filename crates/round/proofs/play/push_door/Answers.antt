@@ -9,7 +9,7 @@ returns c =
     let n = v.ok.0 in
     let h : c.args.d < length (vec_items v) = omega (arith, n, c.requires) in
     record {
-      after = mapped_perhaps deque_items (vec_items v) c.args.d c.index-mut.result.now c.push_back.new.waiting
-          (λ (q : List Block). q ++ (c.args.block ∷ [])) [] c.push_back.result h c.index-mut.ensures.value c.push_back.ensures;
+      after = mapped_perhaps deque_items (vec_items v) c.args.d c.index_mut.result.now c.push_back.new.waiting
+          (λ (q : List Block). q ++ (c.args.block ∷ [])) [] c.push_back.result h c.index_mut.ensures.value c.push_back.ensures;
       len = refl;
     }

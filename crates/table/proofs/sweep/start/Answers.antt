@@ -3,8 +3,8 @@ use Rattle.table.specs.Cells.{state_of}
 use Rattle.table.proofs.Sweeping.{started_more, state_small}
 use Rattle.table.proofs.sweep.start.Goals as goal
 
-pub overflow-shl-sets : goal.overflow-shl-sets
-overflow-shl-sets c =
+pub overflow_shl-sets : goal.overflow_shl-sets
+overflow_shl-sets c =
     let s = state_small c.args.n c.loop-i.i (omega arith) in
     let q : c.switch_of.result ≡ (state_of c.args.n c.loop-i.i).1 = c.switch_of.ensures in
     omega arith

@@ -19,18 +19,18 @@ layer-requires c =
 
 pub loop-j-preserved : goal.loop-j-preserved
 loop-j-preserved c =
-    let e : suc c.loop-j.-j ≡ c.loop-j.-j + 1 = omega arith in
+    let e : suc c.loop-j._j ≡ c.loop-j._j + 1 = omega arith in
     subst (λ (j : ℕ). Layer (graph_by c.args.n c.args.from.now c.args.to.now) (up_by c.args.ups.now) j 0 c.layer.new.sets c.layer.new.cells) e
-    (c.layer.ensures.more c.loop-j.-j (omega arith) c.loop-j.invariant)
+    (c.layer.ensures.more c.loop-j._j (omega arith) c.loop-j.invariant)
 
 pub returns : goal.returns
 returns c =
-    all_found (graph_by c.args.n c.args.from.now c.args.to.now) (up_by c.args.ups.now) c.loop-j.-j c.loop-j.sets c.loop-j.cells (omega arith) c.loop-j.invariant
+    all_found (graph_by c.args.n c.args.from.now c.args.to.now) (up_by c.args.ups.now) c.loop-j._j c.loop-j.sets c.loop-j.cells (omega arith) c.loop-j.invariant
 
 pub same-requires : goal.same-requires
 same-requires c = let w = c.requires.wired.states in let d = c.requires.same in omega arith
 
 pub returns-then-same : goal.returns-then-same
 returns-then-same c =
-    still_found (graph_by c.args.n c.args.from.now c.args.to.now) (up_by c.args.ups.now) c.requires.wired.ends.to c.loop-j.-j c.loop-j.sets c.layer.new.sets c.loop-j.cells c.layer.new.cells
-    (sym c.layer.ensures.kept ∙ c.same.ensures c.if-same.true) (omega arith) c.loop-j.invariant (c.layer.ensures.more c.loop-j.-j (omega arith) c.loop-j.invariant)
+    still_found (graph_by c.args.n c.args.from.now c.args.to.now) (up_by c.args.ups.now) c.requires.wired.ends.to c.loop-j._j c.loop-j.sets c.layer.new.sets c.loop-j.cells c.layer.new.cells
+    (sym c.layer.ensures.kept ∙ c.same.ensures c.if-same.true) (omega arith) c.loop-j.invariant (c.layer.ensures.more c.loop-j._j (omega arith) c.loop-j.invariant)

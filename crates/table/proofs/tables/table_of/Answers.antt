@@ -11,8 +11,8 @@ fill_in-requires c =
     let f = c.requires.linked.few in
     let e : length (take (c.args.n + c.args.n) (replicate {A = ℕ} 128 0)) ≡ c.args.n + c.args.n = length-take-le (c.args.n + c.args.n) (replicate 128 0) (omega arith) in
     let m : length (take (length c.args.from.now) (replicate {A = ℕ} 256 0)) ≡ length c.args.from.now = length-take-le (length c.args.from.now) (replicate 256 0) c.requires.linked.short in
-    let x : c.deref-mut.result.now ≡ replicate ((c.args.n + c.args.n) * c.args.n) Here = c.deref-mut.ensures.value ∙ c.in_ok-cells.ensures in
-    let y : c.deref-mut-2.result.now ≡ replicate ((length c.args.from.now + c.args.n) * c.args.n) Here = c.deref-mut-2.ensures.value ∙ c.in_ok-table.ensures in
+    let x : c.deref_mut.result.now ≡ replicate ((c.args.n + c.args.n) * c.args.n) Here = c.deref_mut.ensures.value ∙ c.in_ok-cells.ensures in
+    let y : c.deref_mut-2.result.now ≡ replicate ((length c.args.from.now + c.args.n) * c.args.n) Here = c.deref_mut-2.ensures.value ∙ c.in_ok-table.ensures in
     record {
       wired = record { few = c.requires.linked.few; ends = c.requires.linked.ends; short = c.requires.linked.short; ups = c.requires.linked.ups; states = e; cells = ap length x ∙ length-replicate ((c.args.n + c.args.n) * c.args.n) Here };
       near = c.requires.near;
@@ -25,10 +25,10 @@ fill_in-requires c =
 
 pub returns : goal.returns
 returns c =
-    let y : c.deref-mut-2.result.now ≡ replicate ((length c.args.from.now + c.args.n) * c.args.n) Here = c.deref-mut-2.ensures.value ∙ c.in_ok-table.ensures in
-    let z : length c.deref-mut-2.result.now ≡ (length c.args.from.now + c.args.n) * c.args.n = ap length y ∙ length-replicate ((length c.args.from.now + c.args.n) * c.args.n) Here in
-    let k : length c.fill_in.new.table ≡ length c.deref-mut-2.result.now = c.fill_in.auto.table in
-    let v : length c.deref-mut-2.result.now ≡ c.in_ok-table.table.len = c.deref-mut-2.ensures.len in
+    let y : c.deref_mut-2.result.now ≡ replicate ((length c.args.from.now + c.args.n) * c.args.n) Here = c.deref_mut-2.ensures.value ∙ c.in_ok-table.ensures in
+    let z : length c.deref_mut-2.result.now ≡ (length c.args.from.now + c.args.n) * c.args.n = ap length y ∙ length-replicate ((length c.args.from.now + c.args.n) * c.args.n) Here in
+    let k : length c.fill_in.new.table ≡ length c.deref_mut-2.result.now = c.fill_in.auto.table in
+    let v : length c.deref_mut-2.result.now ≡ c.in_ok-table.table.len = c.deref_mut-2.ensures.len in
     let q : take c.in_ok-table.table.len (c.fill_in.new.table ++ drop (length c.fill_in.new.table) c.in_ok-table.table.items) ≡ c.fill_in.new.table =
     take_at c.fill_in.new.table (drop (length c.fill_in.new.table) c.in_ok-table.table.items) c.in_ok-table.table.len (k ∙ v) in
     subst (λ (xs : List Entry). Tabled c.args.n c.args.from.now c.args.to.now c.args.ups.now xs) (sym q) (record { size = k ∙ z; entries = c.fill_in.ensures })

@@ -13,7 +13,7 @@ count_once-requires c =
     let t = k.same in
     let f = m.few in
     let n = count_small (net_of m.layout) c.args.c c.args.p c.args.counts.now c.args.marks.now k c.in-Link.e l in
-    ((omega arith, omega arith), omega arith)
+    record { e_in_bounds = (omega arith, omega arith); e_bound = omega arith }
 
 pub returns-in-Link : goal.returns-in-Link
 returns-in-Link c =

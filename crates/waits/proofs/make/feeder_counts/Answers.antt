@@ -4,8 +4,8 @@ use Rattle.waits.proofs.make.feeder_counts.Goals as goal
 
 pub count_feeders-requires : goal.count_feeders-requires
 count_feeders-requires c = (
-  c.deref-mut.ensures.value ∙ c.in_ok-counts.ensures.0,
-  c.deref-mut-2.ensures.value ∙ c.in_ok-marks.ensures.0,
+  c.deref_mut.ensures.value ∙ c.in_ok-counts.ensures.0,
+  c.deref_mut-2.ensures.value ∙ c.in_ok-marks.ensures.0,
 )
 
 pub returns : goal.returns

@@ -5,7 +5,7 @@ use Rattle.waits.proofs.make.patiences.Goals as goal
 pub work_all-requires : goal.work_all-requires
 work_all-requires c = (
   rw c.deref.ensures.value c.in_ok-counts.ensures,
-  c.deref-mut.ensures.value ∙ c.in_ok-found.ensures.0,
+  c.deref_mut.ensures.value ∙ c.in_ok-found.ensures.0,
 )
 
 pub returns : goal.returns

@@ -23,8 +23,8 @@ full_store-sum-requires c =
     let s = c.requires.1.short c.in-Link.e d in
     (m.some, (m.most, omega arith))
 
-pub overflow-add-sum : goal.overflow-add-sum
-overflow-add-sum c =
+pub overflow_add-sum : goal.overflow_add-sum
+overflow_add-sum c =
     let k = c.full_store-sum.ensures.small in
     let f = c.args.plan.now.few in
     let v = c.loop-e.invariant.small in

@@ -8,8 +8,8 @@ join-requires c =
     linked_of c.args.switches c.args.cables.now _ _ c.in_default.ensures
     (c.as_slice.ensures.value ∙ c.in-Ok.ensures) (c.as_slice-2.ensures.value ∙ c.in-Ok-ends.ensures)
 
-pub invariant-of-result : goal.invariant-of-result
-invariant-of-result c =
+pub invariant_of-result : goal.invariant_of-result
+invariant_of-result c =
     let k = linked_of c.args.switches c.args.cables.now (vec_items c.in-Ok.from) (vec_items c.in-Ok-ends.to) c.in_default.ensures c.in-Ok.ensures c.in-Ok-ends.ensures in
     let n = c.args.switches in
     let j : Joins n (vec_items c.in-Ok.from) (vec_items c.in-Ok-ends.to) (Ok c.in-Ok-join.root) =
@@ -18,4 +18,18 @@ invariant-of-result c =
     let v : c.in-Ok.from.len ≡ length (vec_items c.in-Ok.from) = c.in-Ok.from.ok.0 in
     let s = k.short in
     let short : c.in-Ok.from.len ≤ 256 = omega arith in
-    (k.some, (k.few, (short, (k.ends.same, (k.ends.from, (k.ends.to, (k.apart, ((λ i l. (k.two i l).0), ((λ i l. (k.two i l).1), ((λ i l. (k.two i l).2), (j.2, (j.1, (j.0, tt)))))))))))))
+    record {
+      some = k.some;
+      few = k.few;
+      short = short;
+      same = k.ends.same;
+      begins = k.ends.from;
+      ends = k.ends.to;
+      apart = k.apart;
+      back = λ i l. (k.two i l).0;
+      back_from = λ i l. (k.two i l).1;
+      back_to = λ i l. (k.two i l).2;
+      joined = j.2;
+      inside = j.1;
+      center = j.0;
+    }

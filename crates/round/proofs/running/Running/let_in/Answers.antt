@@ -11,27 +11,20 @@ returns-in-Some c =
     let g = c.args.self.now in
     record { answer = c.in-Some.ensures; plan = refl; after = refl; kept = settled g }
 
-pub invariant-of-self : goal.invariant-of-self
-invariant-of-self c =
+pub invariant_of-self : goal.invariant_of-self
+invariant_of-self c =
     let g = c.args.self.now in
     let z = net_in g in
     let f = c.let_in.ensures.fitted in
-    let w = c.in_default.ensures in (
-      f.links,
-      (
-        f.doors,
-        (
-          f.credits,
-          (
-            f.turns,
-            (
-              f.sizes,
-              (perhaps z (Enter c.args.block) (state_in g) (state_of c.let_in.new.self) c.let_in.result (this_enters z c.args.block w.0 w.1) c.let_in.ensures.after g.past, tt),
-            ),
-          ),
-        ),
-      ),
-    )
+    let w = c.in_default.ensures in
+    record {
+      links = f.links;
+      doors = f.doors;
+      credits = f.credits;
+      turns = f.turns;
+      sizes = f.sizes;
+      past = perhaps z (Enter c.args.block) (state_in g) (state_of c.let_in.new.self) c.let_in.result (this_enters z c.args.block w.0 w.1) c.let_in.ensures.after g.past;
+    }
 
 pub returns-then-let_in : goal.returns-then-let_in
 returns-then-let_in c =

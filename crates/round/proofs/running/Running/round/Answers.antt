@@ -11,26 +11,19 @@ round-requires c =
     let g = c.args.self.now in
     record { fitted = fitted_in g; steady = steady_past (net_in g) (plan_good g.plan) (state_in g) g.past }
 
-pub invariant-of-self : goal.invariant-of-self
-invariant-of-self c =
+pub invariant_of-self : goal.invariant_of-self
+invariant_of-self c =
     let g = c.args.self.now in
     let z = net_in g in
-    let f = c.round.ensures.fitted in (
-      f.links,
-      (
-        f.doors,
-        (
-          f.credits,
-          (
-            f.turns,
-            (
-              f.sizes,
-              (perhaps z Round (state_in g) (state_of c.round.new.self) (is_ok c.round.result) (round_enters_none z) c.round.ensures.after g.past, tt),
-            ),
-          ),
-        ),
-      ),
-    )
+    let f = c.round.ensures.fitted in
+    record {
+      links = f.links;
+      doors = f.doors;
+      credits = f.credits;
+      turns = f.turns;
+      sizes = f.sizes;
+      past = perhaps z Round (state_in g) (state_of c.round.new.self) (is_ok c.round.result) (round_enters_none z) c.round.ensures.after g.past;
+    }
 
 pub returns : goal.returns
 returns c =

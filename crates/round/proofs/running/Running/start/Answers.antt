@@ -5,11 +5,18 @@ use Rattle.round.specs.Fabric.{state_of}
 use Rattle.round.proofs.Kept.{kept, at_start}
 use Rattle.round.proofs.running.Running.start.Goals as goal
 
-pub invariant-of-result : goal.invariant-of-result
-invariant-of-result c =
+pub invariant_of-result : goal.invariant_of-result
+invariant_of-result c =
     let f = c.in-Ok.ensures.0 in
     let z = net_of c.args.plan.layout in
-    (f.links, (f.doors, (f.credits, (f.turns, (f.sizes, (∣ at_start z (state_of c.in-Ok.fabric) c.in-Ok.ensures.1 ∣₁, tt))))))
+    record {
+      links = f.links;
+      doors = f.doors;
+      credits = f.credits;
+      turns = f.turns;
+      sizes = f.sizes;
+      past = ∣ at_start z (state_of c.in-Ok.fabric) c.in-Ok.ensures.1 ∣₁;
+    }
 
 pub returns-in-Ok : goal.returns-in-Ok
 returns-in-Ok c =

@@ -28,10 +28,10 @@ ranks_of-requires c =
       low = low_in c.args.cabling c.args.root (vec_items c.in-Ok.levels) h _ c.as_slice-4.ensures.value;
     }
 
-pub invariant-of-result : goal.invariant-of-result
-invariant-of-result c =
+pub invariant_of-result : goal.invariant_of-result
+invariant_of-result c =
     let h = c.in-Ok.ensures in
     let u : vec_items c.in-Ok-ups_of.ups ≡ up_list (graph_in c.args.cabling) (level (graph_in c.args.cabling) c.args.root) =
     ups_in c.args.cabling c.args.root (vec_items c.in-Ok.levels) h _ _ _ (vec_items c.in-Ok-ups_of.ups) c.as_slice.ensures.value c.as_slice-2.ensures.value c.as_slice-3.ensures.value c.in-Ok-ups_of.ensures in
     let s = ranks_in c.args.cabling c.args.root (vec_items c.in-Ok.levels) h _ _ (vec_items c.in-Ok-ups_of.ups) _ (vec_items c.in-Ok-ranks_of.ranks) c.as_slice-4.ensures.value c.as_slice-5.ensures.value c.as_slice-6.ensures.value u c.in-Ok-ranks_of.ensures in
-    (h.below, (h.levelled.each, (u, (s, tt))))
+    record { inside = h.below; levelled = h.levelled.each; upped = u; ranked = s }
