@@ -5,22 +5,20 @@ use ring::{Verdict, find};
 use std::alloc::Global;
 use std::fmt::Write;
 use std::io::Read;
+use std::process::ExitCode;
 use std::{env, fs, io};
 use wire::{Table, WireError, read_table};
 
 const HELP: &str = "usage: rings TABLE   (a file of a foreign table, or - for standard input)";
 
-// The program ends with status 1; what was to be said has been said.
-#[derive(Drop)]
-struct Failed;
-
-fn main(rt: HostRuntime) -> Result<(), Failed> {
+// Where the status is 1, what was to be said has been said.
+fn main(rt: HostRuntime) -> ExitCode {
     match judge(&rt) {
-        Ok(true) => Ok(()),
-        Ok(false) => Err(Failed),
+        Ok(true) => ExitCode::SUCCESS,
+        Ok(false) => ExitCode::FAILURE,
         Err(cause) => {
             let _ = eprintln!(rt; "rings: {cause}");
-            Err(Failed)
+            ExitCode::FAILURE
         }
     }
 }
@@ -40,7 +38,7 @@ fn judge(rt: &HostRuntime) -> anyhow::Result<bool> {
     let mut words = env::args(rt)?;
     let _program = words.next();
     let (Some(name), None) = (words.next(), words.next()) else {
-        return Err(HELP.into());
+        return Err(anyhow!("{HELP}"));
     };
     let Ok(bytes) = load(rt, name.as_str()) else {
         eprintln!(rt; "rings: cannot read {name}")?;

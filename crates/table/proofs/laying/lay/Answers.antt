@@ -13,4 +13,4 @@ pub returns : goal.returns
 returns c =
     laid_out c.args.tree.now _ c.args.room _ _ _ _ _ (omega arith) (omega arith) c.len.ensures refl refl refl
     c.as_slice.ensures.value c.as_slice-2.ensures.value c.as_slice-3.ensures.value c.in-Ok.ensures
-    c.as_slice-4.ensures.value c.in-Ok-with_doors.ensures c.as_slice-5.ensures.value c.in-Ok-from_slice.ensures.made.0
+    c.as_slice-4.ensures.value c.in-Ok-with_doors.ensures c.as_slice-5.ensures.value c.in-Ok-from_slice.ensures.items
