@@ -1,10 +1,9 @@
 -- Sets as the bits of one number: what is in a union, in a set of one, and when all of the first n are in. Assumes nothing.
-use Rattle.std.proofs.Common.{◌≡◌, ℕ, zero, suc, ◌+◌, ◌-◌, ◌*◌, ◌/◌, ◌%◌, ◌^◌, ◌<◌, ◌≤◌, max, Bool, true, false, cond, ◌&&◌, ◌||◌, eqb, ◌⊎◌, sym, refl, ap, ◌∙◌, subst, inl, inr, ⊎_elim, add-zero, one-mul, pow-suc, div-one, arith, pow_mono}
+use Rattle.std.proofs.Common.{◌≡◌, ℕ, zero, suc, ◌+◌, ◌-◌, ◌*◌, ◌/◌, ◌%◌, ◌^◌, ◌<◌, ◌≤◌, max, true, false, ◌||◌, eqb, ◌⊎◌, sym, refl, ap, ◌∙◌, inl, inr, ⊎_elim, add-zero, one-mul, pow-suc, div-one, arith, pow_mono}
 use native.Mathlib.Nat.{div-eq_of_lt}
 use lib.Bits.{bit_or, bit_and, or_shr, or_step, and_mask}
-use Rattle.std.proofs.lemmas.Bool.{cases_lt, cases_eq, cases_Bool, eqb-true, eqb-false, eq-eqb, ne_eqb, both_ways, cases_order}
+use Rattle.std.proofs.lemmas.Bool.{cases_lt, cases_Bool, eqb-true, eq-eqb, ne_eqb, both_ways, cases_order}
 use Rattle.std.proofs.lemmas.Nat.{mod_below, pow_pos, pow-add, shl-shr, mod-pow-add, pow_below, mod-mul-add, shr-shr, one_shl}
-use Rattle.std.proofs.lemmas.Bool.Decides.{nat_tests}
 use Rattle.roads.specs.Numbers.{every}
 use Rattle.roads.proofs.Below.{every_at, every_from}
 use Rattle.graph.specs.Sets.{has}

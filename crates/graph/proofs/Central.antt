@@ -1,12 +1,11 @@
 -- Distance and root in words of walks. Assumes nothing.
-use Rattle.std.proofs.Common.{◌≡◌, ℕ, zero, suc, ◌<◌, ◌≤◌, Bool, true, false, leb, ◌⊎◌, sym, ap, ◌∙◌, subst, inl, inr, ⊎_elim, arith}
-use Rattle.std.proofs.lemmas.Bool.{cases_lt, cases_eq, leb-true, le-leb, lt-leb, both_ways}
-use Rattle.roads.specs.Numbers.{every, least}
+use Rattle.std.proofs.Common.{◌≡◌, ℕ, zero, suc, ◌<◌, ◌≤◌, leb, ap, ⊎_elim, arith}
+use Rattle.std.proofs.lemmas.Bool.{cases_lt, cases_eq, leb-true, le-leb, both_ways}
+use Rattle.roads.specs.Numbers.{every}
 use Rattle.roads.proofs.Below.{least_first, least_passes, least_below, every_at, every_from}
 use Rattle.roads.proofs.Roads.{none_shorter, one_so_short}
-use Rattle.graph.specs.Graph.{Graph}
-use Rattle.graph.specs.Tree.{plain, at, distance, reach, root}
-use Rattle.graph.specs.Laws.{DistanceIsShortest, RootIsCentral, Central}
+use Rattle.graph.specs.Tree.{plain, at, reach, root}
+use Rattle.graph.specs.Laws.{DistanceIsShortest, RootIsCentral}
 
 pub distance_law : DistanceIsShortest
 distance_law g j a b la lb =

@@ -1,14 +1,14 @@
 -- Walks can be joined end to end and turned round, so that a switch which reaches all makes all joined. Assumes nothing.
-use Rattle.std.proofs.Common.{◌≡◌, ℕ, zero, suc, ◌+◌, ◌-◌, ◌<◌, ◌≤◌, Bool, true, false, cond, not, ◌&&◌, ◌||◌, eqb, ◌⊎◌, List, [], ◌∷◌, ◌++◌, length, get_or, Ok, Err, Result, sym, refl, ap, ◌∙◌, subst, inl, inr, ⊎_elim, arith}
-use Rattle.std.proofs.lemmas.Bool.{cases_lt, cases_eq, cases_Bool, eq-eqb, eqb-true, both_ways, not-true, not-false}
+use Rattle.std.proofs.Common.{◌≡◌, ℕ, ◌-◌, ◌<◌, ◌≤◌, true, not, List, [], ◌∷◌, ◌++◌, get_or, Ok, Err, sym, ◌∙◌, subst, ⊎_elim, arith}
+use Rattle.std.proofs.lemmas.Bool.{cases_lt, eq-eqb, eqb-true, both_ways, not-true, not-false}
 use Rattle.roads.specs.Numbers.{Least}
-use Rattle.roads.specs.Roads.{Road, there, along, within, shortest}
+use Rattle.roads.specs.Roads.{Road, there, along}
 use Rattle.roads.proofs.Below.{greatest_at, greatest_fits}
 use Rattle.roads.proofs.Roads.{shortest_le, shortest_within, one_so_short}
 use Rattle.roads.proofs.Soon.{shortest_soon}
 use Rattle.graph.specs.Sets.{has}
 use Rattle.graph.specs.Graph.{Graph, graph_by, TwoWay, partner}
-use Rattle.graph.specs.Tree.{plain, at, distance, reach, root, Joined, Lost}
+use Rattle.graph.specs.Tree.{plain, at, distance, reach, Joined, Lost}
 use Rattle.graph.specs.Layers.{Reached, Center, Linked, Joins}
 
 module _ (g : Graph) where

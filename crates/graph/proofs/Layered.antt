@@ -1,12 +1,12 @@
 -- The code's layers are those of the definition. Assumes nothing.
-use Rattle.std.proofs.Common.{◌≡◌, ℕ, zero, suc, ◌+◌, ◌*◌, ◌%◌, ◌^◌, ◌<◌, ◌≤◌, Bool, true, false, cond, ◌&&◌, ◌||◌, eqb, ◌⊎◌, List, [], ◌∷◌, length, get_or, set, sym, refl, ap, ◌∙◌, subst, inl, inr, ⊎_elim, arith}
+use Rattle.std.proofs.Common.{◌≡◌, ℕ, zero, suc, ◌+◌, ◌*◌, ◌%◌, ◌^◌, ◌<◌, ◌≤◌, Bool, ◌&&◌, ◌||◌, eqb, List, length, get_or, set, sym, refl, ap, ◌∙◌, subst, ⊎_elim, arith}
 use Rattle.std.proofs.lemmas.List.{get_or-set_same, get_or-set_other}
 use Rattle.std.proofs.lemmas.Bool.{cases_eq}
 use Rattle.roads.specs.Numbers.{some}
 use Rattle.roads.specs.Roads.{within}
 use Rattle.roads.proofs.Roads.{within_layer, within_zero}
 use Rattle.graph.specs.Sets.{has}
-use Rattle.graph.specs.Graph.{Graph, graph_by}
+use Rattle.graph.specs.Graph.{graph_by}
 use Rattle.graph.specs.Tree.{plain, at}
 use Rattle.graph.specs.Layers.{Reached, Added, Ends}
 use Rattle.graph.proofs.Bits.{has_shl}

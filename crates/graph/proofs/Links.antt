@@ -1,12 +1,12 @@
 -- The links of a list of cables: there are two for each, both between switches that are there, and one goes back where the other came from. Assumes nothing.
-use Rattle.std.proofs.Common.{◌≡◌, ℕ, zero, suc, ◌+◌, ◌-◌, ◌*◌, ◌%◌, ◌<◌, ◌≤◌, cond, eqb, List, [], ◌∷◌, ◌++◌, length, get_or, take, sym, refl, ap, ◌∙◌, subst, ⊎_elim, arith}
+use Rattle.std.proofs.Common.{◌≡◌, ℕ, zero, suc, ◌+◌, ◌-◌, ◌*◌, ◌%◌, ◌<◌, ◌≤◌, eqb, List, [], ◌∷◌, ◌++◌, length, get_or, take, sym, refl, ap, ◌∙◌, subst, ⊎_elim, arith}
 use Rattle.std.proofs.lemmas.Bool.{cases_eq, cases_lt, cond-true, cond-false, eq-eqb, ne_eqb}
 use Rattle.std.proofs.lemmas.List.{take_more, take_all}
 use Rattle.graph.specs.declared.Cable.{Cable}
-use Rattle.graph.specs.Graph.{graph_by, TwoWay, partner}
+use Rattle.graph.specs.Graph.{TwoWay, partner}
 use Rattle.graph.specs.Cables.{froms, tos, graph_of}
 use Rattle.graph.specs.Layers.{Ends, Linked}
-use Rattle.graph.specs.Refusal.{Sound, Fine, no_cable}
+use Rattle.graph.specs.Refusal.{Fine, no_cable}
 
 froms_push : (cs : List Cable) (c : Cable) → froms (cs ++ (c ∷ [])) ≡ (froms cs ++ (c.a ∷ [])) ++ (c.b ∷ [])
 unfolding froms

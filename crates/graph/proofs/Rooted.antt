@@ -1,8 +1,8 @@
 -- The first set that is full belongs to the root; the number of layers that lack the root is the level. Assumes nothing.
-use Rattle.std.proofs.Common.{◌≡◌, ℕ, zero, suc, ◌+◌, ◌-◌, ◌<◌, ◌≤◌, Bool, true, false, cond, ◌&&◌, ◌||◌, eqb, leb, ◌⊎◌, List, [], ◌∷◌, length, get_or, sym, refl, ap, ◌∙◌, subst, inl, inr, ⊎_elim, arith}
-use Rattle.std.proofs.lemmas.Bool.{cases_lt, cases_eq, cases_Bool, le-leb, lt-leb, leb-true, leb-false, both_ways, cond-true, cond-false}
-use Rattle.roads.specs.Numbers.{Least, least, every, greatest}
-use Rattle.roads.specs.Roads.{within, shortest}
+use Rattle.std.proofs.Common.{◌≡◌, ℕ, suc, ◌+◌, ◌-◌, ◌<◌, ◌≤◌, Bool, true, false, cond, leb, List, length, get_or, sym, ap, ◌∙◌, subst, ⊎_elim, arith}
+use Rattle.std.proofs.lemmas.Bool.{cases_lt, cases_Bool, le-leb, lt-leb, leb-true, leb-false, both_ways, cond-true, cond-false}
+use Rattle.roads.specs.Numbers.{Least, every}
+use Rattle.roads.specs.Roads.{within}
 use Rattle.roads.proofs.Below.{least_is, every_at, every_from, every_not, greatest_at, greatest_fits}
 use Rattle.roads.proofs.Roads.{shortest_le, shortest_within, shortest_is, within_more}
 use Rattle.graph.specs.Sets.{has}

@@ -1,5 +1,5 @@
 -- What the code's sets hold, layer by layer. Assumes nothing.
-use Rattle.std.specs.Prelude.{◌≡◌, ℕ, suc, ◌-◌, ◌<◌, ◌≤◌, Bool, true, false, ◌&&◌, ◌||◌, List, [], ◌∷◌, length, Result, MatchResult, ◌==◌, ◌≢◌, slice_index}
+use Rattle.std.specs.Prelude.{◌≡◌, ℕ, ◌-◌, ◌<◌, ◌≤◌, ◌&&◌, ◌||◌, List, length, Result, MatchResult, ◌==◌, ◌≢◌, slice_index}
 use Rattle.roads.specs.Numbers.{some}
 use Rattle.roads.specs.Roads.{within}
 use Rattle.graph.specs.Sets.{has}

@@ -2,6 +2,8 @@
 // of its tree and the level of each switch. The code goes layer by layer with a set of switches in one number. What it
 // finds is what the definitions say; above them stand two laws: a walk as long as the distance exists and none is
 // shorter, and the root is the switch whose greatest distance is least, the lowest number among equals.
+#![tactic(auto)]
+
 mod begins;
 mod cabling;
 mod check;

@@ -1,9 +1,9 @@
 -- A block takes as long as its wait, by computing the run. Assumes nothing.
-use Rattle.std.proofs.Common.{◌≡◌, [], ◌∷◌, ◌++◌, refl}
+use Rattle.std.proofs.Common.{◌≡◌, refl}
 use Rattle.net.specs.Order.{order, insert_by}
-use Rattle.machine.specs.Round.{Round, after, all_handed, all_served, look, play}
+use Rattle.machine.specs.Round.{all_handed, all_served, look, play}
 use Rattle.machine.specs.Waits.{wait, feeds, feeders, worst, within, onward}
-use Rattle.machine.specs.OnTime.{OnTime, line, earlier, meanwhile, names}
+use Rattle.machine.specs.OnTime.{OnTime, line}
 
 five : wait line 0 5 2 ≡ 5
 unfolding feeds feeders worst within onward

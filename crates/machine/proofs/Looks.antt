@@ -1,11 +1,11 @@
 -- What a first block wants, and what a link finds when it looks round from its turn. Assumes nothing.
-use Rattle.std.proofs.Common.{◌≡◌, ℕ, zero, suc, ◌+◌, ◌-◌, ◌<◌, ◌≤◌, true, false, eqb, ltb, ◌⊎◌, List, [], ◌∷◌, Some, None, sym, refl, ap, subst, inl, inr, ⊎_elim, arith}
-use Rattle.std.proofs.lemmas.Bool.{cond_both, cond-true, cond-false, eq-eqb, ne_eqb, eqb-true, ltb-true, ltb-false, cases_lt, false≢true}
+use Rattle.std.proofs.Common.{◌≡◌, ℕ, zero, suc, ◌+◌, ◌-◌, ◌<◌, ◌≤◌, true, false, ltb, ◌⊎◌, List, [], ◌∷◌, Some, None, sym, refl, ap, subst, inl, inr, ⊎_elim, arith}
+use Rattle.std.proofs.lemmas.Bool.{cond_both, eq-eqb, eqb-true, ltb-true, ltb-false, cases_lt, false≢true}
 use Rattle.net.specs.declared.Block.{Block}
 use Rattle.net.specs.declared.Entry.{Entry}
 use Rattle.net.specs.declared.Entry.TheVariants.{Here, Link}
 use Rattle.net.specs.Net.{Net, channels, is_here, is_to}
-use Rattle.machine.specs.Round.{at, comes, wants, look, following}
+use Rattle.machine.specs.Round.{comes, wants, look, following}
 
 -- the first of a queue, and where it goes
 abbrev pub First : Net → ℕ → List Block → Entry → Type 0

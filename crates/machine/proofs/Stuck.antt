@@ -1,9 +1,9 @@
 -- The ring of four with a table that goes round stands still, and no ranks rise along it. Assumes nothing.
-use Rattle.std.proofs.Common.{◌≡◌, ℕ, zero, suc, ◌<◌, Bool, true, false, cond, ltb, List, [], ◌∷◌, refl, ap, ◌∙◌, arith}
+use Rattle.std.proofs.Common.{◌≡◌, ℕ, zero, suc, ◌<◌, Bool, false, cond, ltb, List, [], ◌∷◌, refl, ap, ◌∙◌, arith}
 use Rattle.std.specs.List.{AllByRecursion as All}
 use Rattle.net.specs.Net.{Net, Good, channels}
 use Rattle.net.specs.Order.{order, insert_by, serving}
-use Rattle.machine.specs.Round.{State, all_handed, handed_over, all_served, serve, take, deliver, comes, look, play, counted, round}
+use Rattle.machine.specs.Round.{State, all_handed, handed_over, all_served, take, deliver, comes, look, play, counted, round}
 use Rattle.machine.specs.Still.{StandsStill, ring_of_four, in_turn, filled, for_two_on}
 
 -- where no first block has come, handing over changes nothing

@@ -1,11 +1,10 @@
 -- The wait is no empty promise: a run in which a block takes exactly as long as its wait. Assumes nothing.
-use Rattle.std.specs.Prelude.{◌≡◌, ℕ, ◌-◌, Bool, cond, List, [], ◌∷◌, ◌++◌, map, slice_index}
+use Rattle.std.specs.Prelude.{◌≡◌, ℕ, List, [], ◌∷◌, ◌++◌, slice_index}
 use Rattle.net.specs.declared.Block.{Block}
 use Rattle.net.specs.declared.Came.{Came}
-use Rattle.net.specs.declared.Entry.{Entry}
 use Rattle.net.specs.declared.Entry.TheVariants.{Here, Link}
 use Rattle.net.specs.Layout.{entry_at}
-use Rattle.net.specs.Net.{Net, Good}
+use Rattle.net.specs.Net.{Net}
 use Rattle.machine.specs.Round.{Event, Enter, Round, after}
 use Rattle.machine.specs.Waits.{wait}
 

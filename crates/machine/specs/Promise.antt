@@ -1,6 +1,6 @@
 -- What is promised of every good net and every script. Each promise says what holds after a script; the theorem is that it
 -- always does. Assumes nothing.
-use Rattle.std.specs.Prelude.{◌≡◌, ℕ, zero, suc, ◌+◌, ◌<◌, ◌≤◌, Bool, true, false, cond, ◌&&◌, List, [], ◌∷◌, ◌++◌, map, length, ◌==◌}
+use Rattle.std.specs.Prelude.{◌≡◌, ℕ, zero, suc, ◌+◌, ◌<◌, ◌≤◌, Bool, cond, ◌&&◌, List, [], ◌∷◌, ◌++◌, length, ◌==◌}
 use mathlib.Core.List.{Memᴰ}
 use Rattle.net.specs.declared.Block.{Block}
 use Rattle.net.specs.declared.Came.{Came}

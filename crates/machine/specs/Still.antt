@@ -1,10 +1,9 @@
 -- The other side: a ring of four switches whose table sends every block round by 0, 1, 2, 3, 0, with stores of one. Assumes nothing.
-use Rattle.std.specs.Prelude.{◌≡◌, ℕ, zero, suc, ◌+◌, ◌-◌, ◌*◌, ◌%◌, ◌<◌, Bool, true, false, cond, List, [], ◌∷◌, ◌==◌, nat_lt}
+use Rattle.std.specs.Prelude.{◌≡◌, ℕ, ◌+◌, ◌-◌, ◌%◌, ◌<◌, cond, [], ◌∷◌, ◌==◌, nat_lt}
 use Rattle.net.specs.declared.Block.{Block}
-use Rattle.net.specs.declared.Entry.{Entry}
 use Rattle.net.specs.declared.Entry.TheVariants.{Here, Link}
 use Rattle.net.specs.Net.{Net, Good}
-use Rattle.machine.specs.Round.{State, Event, Enter, Round, after, round, counted}
+use Rattle.machine.specs.Round.{State, Enter, Round, after, round, counted}
 
 -- link k goes from switch k to the next one round; doors are channels 4 to 7
 abbrev pub end : ℕ → ℕ

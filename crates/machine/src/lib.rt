@@ -1,5 +1,7 @@
 // The machine in specs/: the state of a net, what a round does, and the promises. In proofs/ the promises are
 // proved of it, over any good net and any script. Each function here has one theorem as its contract.
+#![tactic(auto)]
+
 ghost use Rattle.machine.specs.OnTime.{OnTime};
 ghost use Rattle.machine.specs.Promise.{Fits, CountRight, Conserved, InOrder, AtPlace, OneLink, Moves, Waits, Enters, Main};
 ghost use Rattle.machine.specs.Still.{StandsStill};

@@ -1,9 +1,9 @@
 -- Outside of its rows and columns a table says here, and so rises. Assumes nothing.
-use Rattle.std.proofs.Common.{◌≡◌, ℕ, ◌+◌, ◌*◌, ◌<◌, ◌≤◌, Bool, true, false, cond, ◌&&◌, ltb, ◌⊎◌, List, length, get_or, vec_items, vec_len, sym, refl, ap, ◌∙◌, subst, inl, inr, mul-le-mul_right, arith}
+use Rattle.std.proofs.Common.{◌≡◌, ℕ, ◌+◌, ◌*◌, ◌<◌, ◌≤◌, true, ◌&&◌, ltb, length, get_or, vec_items, vec_len, refl, ap, subst, mul-le-mul_right, arith}
 use Rattle.std.proofs.lemmas.List.{get_or_past}
-use Rattle.std.proofs.lemmas.Bool.{cond-true, cond-false, cond_both, le-ltb, ltb-true, and_parts, cases_lt}
+use Rattle.std.proofs.lemmas.Bool.{cond-false, cond_both, le-ltb, ltb-true, and_parts}
 use Rattle.net.specs.declared.Entry.{Entry}
-use Rattle.net.specs.declared.Entry.TheVariants.{Here, Link}
+use Rattle.net.specs.declared.Entry.TheVariants.{Here}
 use Rattle.net.specs.Net.{Good}
 use Rattle.net.specs.declared.layout.Layout.{Layout}
 use Rattle.net.specs.declared.plan.Plan.{Plan}

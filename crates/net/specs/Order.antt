@@ -1,5 +1,5 @@
 -- The order in which links are served: highest rank first, among equals the lower number. Assumes nothing.
-use Rattle.std.specs.Prelude.{◌≡◌, ℕ, zero, suc, ◌<◌, Bool, true, false, cond, ◌⊎◌, List, [], ◌∷◌, length, nat_lt, slice_index}
+use Rattle.std.specs.Prelude.{◌≡◌, ℕ, zero, suc, ◌<◌, cond, ◌⊎◌, List, [], ◌∷◌, length, nat_lt, slice_index}
 use Rattle.net.specs.Net.{Net}
 
 -- e stands before the first of lower rank

@@ -1,5 +1,4 @@
 -- Why a layout is refused. Assumes nothing.
-use Rattle.std.specs.Prelude.{ℕ}
 use Rattle.net.specs.declared.error.PlanError.{PlanError}
 use Rattle.net.specs.declared.error.PlanError.TheVariants.{Sizes, Falls, Memory}
 use Rattle.net.specs.declared.layout.Layout.{Layout}

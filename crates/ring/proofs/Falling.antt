@@ -1,12 +1,12 @@
 -- Walking down the distances gives the way back that is first in order. Assumes nothing.
-use Rattle.std.proofs.Common.{◌≡◌, ℕ, zero, suc, ◌+◌, ◌-◌, ◌<◌, ◌≤◌, ◌⊎◌, List, [], ◌∷◌, ◌++◌, length, get_or, sym, refl, ap, ◌∙◌, subst, inl, inr, ⊎_elim, append_assoc, arith}
+use Rattle.std.proofs.Common.{◌≡◌, ℕ, ◌+◌, ◌-◌, ◌<◌, ◌≤◌, List, [], ◌∷◌, ◌++◌, length, get_or, sym, ap, ◌∙◌, subst, inl, inr, ⊎_elim, append_assoc, arith}
 use Rattle.std.specs.List.{AllByRecursion as All}
 use Rattle.std.proofs.ByRecursion.{All-weaker}
-use Rattle.std.proofs.lemmas.Bool.{cases_eq, cases_lt}
-use Rattle.ring.specs.Ring.{Along, Differ, NotAfter}
+use Rattle.std.proofs.lemmas.Bool.{cases_lt}
+use Rattle.ring.specs.Ring.{Along, NotAfter}
 use Rattle.ring.specs.Layers.{Back, Near}
 use Rattle.ring.specs.Down.{NextOn, Lowest, LowestRing}
-use Rattle.ring.proofs.Marks.{more_back, back_first, back_last, back_at, back_some}
+use Rattle.ring.proofs.Marks.{more_back, back_first, back_last, back_at}
 
 module _ (H : ℕ → ℕ → Type 0) (c k : ℕ) (A : List ℕ) (n : Near H c k A) where
   -- of a channel with number j + 1, each channel on a way back over j more has number j

@@ -1,14 +1,14 @@
 -- The square of who hands blocks to whom, mark by mark. Assumes nothing.
 use Rattle.std.proofs.Common.{◌≡◌, ℕ, zero, suc, ◌+◌, ◌*◌, ◌<◌, ◌≤◌, Bool, true, false, ◌⊎◌, List, length, get_or, set, replicate, sym, refl, ap, ◌∙◌, subst, inl, inr, ⊎_elim, mul-le-mul_right, arith}
 use Rattle.std.proofs.lemmas.Nat.{mul-add-lt}
-use Rattle.std.proofs.lemmas.List.{get_or-set_same, get_or-set_other, get_or_past}
+use Rattle.std.proofs.lemmas.List.{get_or-set_same, get_or-set_other}
 use Rattle.std.proofs.lemmas.Bool.{cases_eq, cases_lt, cases_order, both_ways, ltb-true}
 use Rattle.net.specs.declared.Entry.{Entry}
 use Rattle.net.specs.declared.Entry.TheVariants.{Here, Link}
 use Rattle.net.specs.Layout.{entry_at}
 use Rattle.ring.specs.Layers.{Feeds}
-use Rattle.ring.specs.Table.{Hands, InRange, Marked, Agrees, marked_by, names}
-use Rattle.ring.proofs.Outside.{in_rows, in_columns, hands_from, hands_to}
+use Rattle.ring.specs.Table.{Hands, Marked, Agrees, marked_by, names}
+use Rattle.ring.proofs.Outside.{hands_from}
 
 -- a place of the square has one row and one column
 pub row_column : (n x y e c : ℕ) → y < n → c < n → x * n + y ≡ e * n + c → (x ≡ e) × (y ≡ c)

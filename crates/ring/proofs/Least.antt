@@ -1,11 +1,11 @@
 -- The search over all lowest members finds the smallest ring, or that there is none. Assumes nothing.
-use Rattle.std.proofs.Common.{◌≡◌, ℕ, ◌+◌, ◌<◌, ◌≤◌, Bool, true, false, ◌&&◌, ◌⊎◌, List, [], ◌∷◌, length, get_or, sym, refl, ap, ◌∙◌, subst, inl, inr, ⊎_elim, arith}
+use Rattle.std.proofs.Common.{◌≡◌, ℕ, ◌+◌, ◌<◌, ◌≤◌, ◌⊎◌, List, [], ◌∷◌, length, get_or, sym, refl, ap, ◌∙◌, subst, inl, inr, ⊎_elim, arith}
 use Rattle.std.specs.List.{AllByRecursion as All}
 use Rattle.std.proofs.lemmas.Bool.{cases_eq, cases_lt, cases_order}
-use Rattle.ring.specs.Ring.{Along, Differ, Ring, NoRing, FromLowest, NotAfter, Smallest}
+use Rattle.ring.specs.Ring.{Along, Ring, NoRing, FromLowest, NotAfter, Smallest}
 use Rattle.ring.specs.Layers.{Back, Near}
 use Rattle.ring.specs.Down.{Lowest, LowestRing}
-use Rattle.ring.specs.Fewest.{Found, Fewest}
+use Rattle.ring.specs.Fewest.{Fewest}
 use Rattle.ring.proofs.Along.{along_below}
 use Rattle.ring.proofs.Count.{few}
 use Rattle.ring.proofs.Turned.{turned}

@@ -1,11 +1,11 @@
 -- Outside of its rows and columns a table says here. Assumes nothing.
-use Rattle.std.proofs.Common.{◌≡◌, ℕ, ◌+◌, ◌*◌, ◌<◌, ◌≤◌, Bool, true, false, cond, ltb, ◌⊎◌, List, length, get_or, sym, refl, ap, ◌∙◌, subst, inl, inr, ⊎_elim, mul-le-mul_right, arith}
+use Rattle.std.proofs.Common.{◌≡◌, ℕ, ◌+◌, ◌*◌, ◌<◌, ◌≤◌, true, ltb, List, length, get_or, sym, refl, ap, subst, ⊎_elim, mul-le-mul_right, arith}
 use Rattle.std.proofs.lemmas.List.{get_or_past}
 use Rattle.std.proofs.lemmas.Bool.{cond-false, cond_both, le-ltb, cases_lt, ltb-true}
 use Rattle.net.specs.declared.Entry.{Entry}
 use Rattle.net.specs.declared.Entry.TheVariants.{Here, Link}
 use Rattle.net.specs.Layout.{entry_at}
-use Rattle.ring.specs.Table.{Sized, Hands, InRange, names}
+use Rattle.ring.specs.Table.{Hands, InRange, names}
 
 pub past_row : (es : List Entry) (m c p : ℕ) → m ≤ p → entry_at es m c p ≡ Here
 past_row es m c p h = cond-false (ltb p m) (get_or es (c * m + p) Here) Here (le-ltb p m h)

@@ -1,17 +1,13 @@
 -- Raising ranks where they do not rise: it ends, and what is left are the least ranks. Assumes nothing.
-use Rattle.std.proofs.Common.{◌≡◌, ℕ, zero, suc, ◌+◌, ◌*◌, ◌<◌, ◌≤◌, Bool, true, false, cond, ◌||◌, leb, ◌⊎◌, List, [], ◌∷◌, length, get_or, set, sum, sym, refl, ap, ◌∙◌, subst, inl, inr, ⊎_elim, arith}
-use Rattle.std.specs.List.{AllByRecursion as All}
+use Rattle.std.proofs.Common.{◌≡◌, ℕ, zero, suc, ◌+◌, ◌*◌, ◌<◌, ◌≤◌, Bool, true, false, cond, leb, ◌⊎◌, List, [], ◌∷◌, length, get_or, set, sum, sym, refl, ap, ◌∙◌, subst, inl, inr, ⊎_elim, arith}
 use Rattle.std.proofs.ByRecursion.{All-from_get_or, sum_by_le}
 use Rattle.std.proofs.lemmas.List.{get_or-set_same, get_or-set_other}
 use Rattle.std.proofs.lemmas.List.Sums.{sum_by-set}
-use Rattle.std.proofs.lemmas.Bool.{cases_eq, cases_lt, cases_Bool, cond-true, cond-false, leb-true, leb-false, both_ways, or_cases, or_parts}
+use Rattle.std.proofs.lemmas.Bool.{cases_eq, cases_Bool, cond-true, cond-false, leb-true, leb-false, both_ways}
 use Rattle.net.specs.declared.Entry.{Entry}
-use Rattle.net.specs.declared.Entry.TheVariants.{Here, Link}
-use Rattle.net.specs.Layout.{entry_at}
-use Rattle.net.specs.Net.{Good}
 use Rattle.ring.specs.Ring.{Along, Differ, Ring, NoRing}
 use Rattle.ring.specs.Table.{Hands}
-use Rattle.ring.specs.Ranks.{Backed, Lifted, LeastRanks, MakesGood, net_with}
+use Rattle.ring.specs.Ranks.{Backed, Lifted, LeastRanks, MakesGood}
 use Rattle.ring.proofs.Along.{along_below, simple}
 use Rattle.ring.proofs.Count.{few}
 use Rattle.ring.proofs.Outside.{in_columns}

@@ -1,11 +1,11 @@
 -- The loops that raise ranks: which entries were looked at, and that the rounds end. Assumes nothing.
-use Rattle.std.proofs.Common.{◌≡◌, ℕ, ◌+◌, ◌-◌, ◌*◌, ◌<◌, ◌≤◌, Bool, true, false, cond, ◌⊎◌, List, length, get_or, sum, sym, refl, ap, ◌∙◌, subst, inl, inr, ⊎_elim, arith}
+use Rattle.std.proofs.Common.{◌≡◌, ℕ, ◌+◌, ◌-◌, ◌*◌, ◌<◌, ◌≤◌, Bool, true, false, cond, ◌⊎◌, List, length, sum, sym, ap, ◌∙◌, subst, inl, inr, ⊎_elim, arith}
 use Rattle.std.proofs.lemmas.Bool.{cases_eq, cases_lt, cases_Bool, cond-true, cond-false, both_ways}
 use Rattle.net.specs.declared.Entry.{Entry}
-use Rattle.net.specs.declared.Entry.TheVariants.{Here, Link}
+use Rattle.net.specs.declared.Entry.TheVariants.{Link}
 use Rattle.net.specs.Layout.{entry_at}
 use Rattle.ring.specs.Table.{Hands}
-use Rattle.ring.specs.Ranks.{Lifted, AtEntry, InRow, Below, Ready, Backed}
+use Rattle.ring.specs.Ranks.{Lifted, AtEntry, InRow, Below, Ready}
 use Rattle.ring.proofs.Rising.{lifted_then, sum_top}
 use Rattle.ring.proofs.Outside.{hands_from}
 

@@ -1,5 +1,5 @@
 -- What is told of a table: a ring exactly if there is one, and the machine's promises otherwise. Assumes nothing.
-use Rattle.std.proofs.Common.{◌≡◌, ℕ, true, false, List, length, get_or, vec_items, Decides, refl}
+use Rattle.std.proofs.Common.{◌≡◌, ℕ, false, List, length, get_or, vec_items, Decides, refl}
 use Rattle.std.proofs.lemmas.Bool.{both_ways}
 use Rattle.net.specs.declared.Entry.{Entry}
 use Rattle.machine.proofs.Whole.{whole}

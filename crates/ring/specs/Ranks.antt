@@ -1,7 +1,7 @@
 -- Ranks of channels: the least that rise wherever blocks are handed on, the net with them, and how the code raises them. Assumes nothing.
 use Rattle.std.specs.Prelude.{◌≡◌, ℕ, ◌+◌, ◌<◌, ◌≤◌, Bool, true, false, ◌⊎◌, List, length, sum, slice_index}
 use Rattle.net.specs.declared.Entry.{Entry}
-use Rattle.net.specs.declared.Entry.TheVariants.{Here, Link}
+use Rattle.net.specs.declared.Entry.TheVariants.{Link}
 use Rattle.net.specs.Layout.{entry_at}
 use Rattle.net.specs.Net.{Net, Good}
 use Rattle.ring.specs.Ring.{NoRing}

@@ -4,6 +4,8 @@
 // first in order; otherwise the least ranks that rise along every entry, with which the table is a good net, so that
 // every promise of the machine holds of it. No search over all rings is made: for each channel c the layers of `layers`
 // give the shortest ways back to it over channels not below c, and `walk` goes down them.
+#![tactic(auto)]
+
 mod error;
 mod finding;
 mod layers;

@@ -1,4 +1,6 @@
 // Tells of a foreign table whether blocks can go round in it: `no ring` and a rank for each channel, or the smallest ring.
+#![tactic(auto)]
+
 use anyhow::anyhow;
 use report::{Notice, Source};
 use ring::{Verdict, find};

@@ -1,6 +1,6 @@
 -- Laws of the least, some, every and greatest below a bound. Assumes nothing.
-use Rattle.std.proofs.Common.{◌≡◌, ℕ, zero, suc, pred, ◌+◌, ◌<◌, ◌≤◌, max, Bool, true, false, cond, ◌&&◌, ◌||◌, ◌⊎◌, sym, refl, ap, ◌∙◌, subst, inl, inr, ⊎_elim, arith}
-use Rattle.std.proofs.lemmas.Bool.{cond-true, cond-false, cond_both, cases_Bool, cases_lt, cases_eq, both_ways, or_cases, or_parts, or_from, or_left, or_right, and_parts, and_from, and_cases}
+use Rattle.std.proofs.Common.{◌≡◌, ℕ, zero, suc, ◌<◌, ◌≤◌, max, Bool, true, false, cond, ◌||◌, ◌⊎◌, sym, refl, ap, subst, inl, inr, ⊎_elim, arith}
+use Rattle.std.proofs.lemmas.Bool.{cond_both, cases_Bool, cases_lt, cases_eq, both_ways, or_cases, or_left, or_right, and_parts, and_from}
 use Rattle.roads.specs.Numbers.{least, some, every, greatest, Least}
 use Rattle.roads.specs.Laws.{LeastIsLeast}
 

@@ -1,10 +1,10 @@
 -- The laws of shortest roads, over any states. Assumes nothing.
-use Rattle.std.proofs.Common.{◌≡◌, ℕ, zero, suc, pred, ◌+◌, ◌<◌, ◌≤◌, Bool, true, false, cond, ◌&&◌, ◌||◌, ◌⊎◌, List, [], ◌∷◌, length, sym, refl, ap, ◌∙◌, subst, inl, inr, ⊎_elim, arith}
-use Rattle.std.proofs.lemmas.Bool.{cases_Bool, cases_lt, both_ways, or_cases, or_parts, or_from, or_left, or_right, and_parts, and_from}
-use Rattle.roads.specs.Numbers.{least, some, Least}
+use Rattle.std.proofs.Common.{◌≡◌, ℕ, zero, suc, pred, ◌<◌, ◌≤◌, Bool, true, false, ◌&&◌, ◌||◌, ◌⊎◌, List, [], ◌∷◌, length, sym, refl, ap, ◌∙◌, subst, inl, inr, ⊎_elim, arith}
+use Rattle.std.proofs.lemmas.Bool.{cases_Bool, cases_lt, both_ways, or_cases, or_from, or_left, or_right, and_parts, and_from}
+use Rattle.roads.specs.Numbers.{some, Least}
 use Rattle.roads.specs.Roads.{Moves, Road, there, along, within, shortest, first}
 use Rattle.roads.specs.Laws.{ShortestRoads}
-use Rattle.roads.proofs.Below.{least_law, least_is, least_passes, least_below, least_first, some_from, some_one, some_none}
+use Rattle.roads.proofs.Below.{least_law, least_is, least_passes, least_below, least_first, some_from, some_one}
 
 -- link k leads on from x to where a road of at most n links begins
 abbrev pub goes : {S : Type 0} → Moves S → (S → Bool) → ℕ → S → ℕ → Bool

@@ -1,9 +1,8 @@
 -- Where there are only n states, a road to the goal needs fewer than n links: each layer adds a state, or none ever does again. Assumes nothing.
-use Rattle.std.proofs.Common.{◌≡◌, ℕ, zero, suc, pred, ◌+◌, ◌<◌, ◌≤◌, Bool, true, false, cond, ◌&&◌, ◌||◌, ◌⊎◌, List, [], ◌∷◌, length, sym, refl, ap, ◌∙◌, subst, inl, inr, ⊎_elim, arith}
-use Rattle.std.proofs.lemmas.Bool.{cond-true, cond-false, cond_both, cases_Bool, cases_lt, cases_eq, both_ways, and_parts, and_from}
+use Rattle.std.proofs.Common.{◌≡◌, ℕ, zero, suc, ◌+◌, ◌<◌, ◌≤◌, Bool, true, false, cond, ◌⊎◌, List, length, sym, ◌∙◌, subst, inl, inr, ⊎_elim, arith}
+use Rattle.std.proofs.lemmas.Bool.{cond-true, cond-false, cond_both, cases_Bool, cases_eq, both_ways, and_parts, and_from}
 use Rattle.roads.specs.Roads.{Moves, Road, there, along, within, shortest}
-use Rattle.roads.proofs.Below.{some_from, some_one, some_none}
-use Rattle.roads.proofs.Roads.{goes, goal_within, goes_within, within_cases, within_more, within_zero, within_road, road_within, shortest_le}
+use Rattle.roads.proofs.Roads.{goes, goal_within, goes_within, within_cases, within_more, within_zero, road_within, shortest_le}
 
 -- how many numbers below n pass f
 tally : (ℕ → Bool) → ℕ → ℕ

@@ -1,5 +1,5 @@
 -- What is proved of shortest roads, over any states. Assumes nothing.
-use Rattle.std.specs.Prelude.{◌≡◌, ℕ, suc, pred, ◌<◌, ◌≤◌, Bool, true, false, List, [], ◌∷◌, length}
+use Rattle.std.specs.Prelude.{◌≡◌, ℕ, suc, ◌<◌, ◌≤◌, Bool, true, false, List, ◌∷◌, length}
 use Rattle.roads.specs.Numbers.{least, Least}
 use Rattle.roads.specs.Roads.{Moves, Road, shortest, first}
 

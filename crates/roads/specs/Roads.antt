@@ -1,5 +1,5 @@
 -- Roads over any states: a link may be taken from a state and leads to another; how far it is to a goal, and the first link of a shortest road. Assumes nothing.
-use Rattle.std.specs.Prelude.{◌≡◌, ℕ, zero, suc, pred, ◌<◌, Bool, true, false, cond, ◌&&◌, ◌||◌, List, [], ◌∷◌}
+use Rattle.std.specs.Prelude.{◌≡◌, ℕ, zero, suc, pred, ◌<◌, Bool, true, ◌&&◌, ◌||◌, List, [], ◌∷◌}
 use Rattle.roads.specs.Numbers.{least, some}
 
 -- links: how many; may x k: link k may be taken from state x; after x k: the state that it leads to

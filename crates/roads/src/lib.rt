@@ -1,6 +1,8 @@
 // The theory of shortest roads, over any states: in specs/ what a road is, how long a shortest one is and which link it
 // begins with; in proofs/ its laws. Plain distance and the legal roads of a tree are its two instances. Each function
 // here has one theorem as its contract.
+#![tactic(auto)]
+
 ghost use Rattle.roads.specs.Laws.{EveryRoadIsSoon, LeastIsLeast, ShortestRoads};
 ghost use Rattle.std.specs.Prelude.{ℕ};
 

@@ -7,7 +7,7 @@ use native.Mathlib.Nat.{ℕ_set}
 use Rattle.net.specs.declared.Block.{Block}
 use Rattle.net.specs.Net.{Net, Good, channels}
 use Rattle.machine.specs.Promise.{Past, Kept}
-use Rattle.machine.specs.Round.{State, Event, Enter, Round, Orderly, start, enter, round, play, after, step}
+use Rattle.machine.specs.Round.{State, Event, Enter, Round, Orderly, start, play, step}
 use Rattle.machine.proofs.Counts.{count_right, turned}
 use Rattle.machine.proofs.Whole.{whole}
 use Rattle.net.proofs.Outside.{plan_good}

@@ -1,11 +1,11 @@
 -- A block that was taken from a channel and put into a link's store has moved as the machine moves it. Assumes nothing.
-use Rattle.std.proofs.Common.{◌≡◌, ℕ, ◌+◌, ◌<◌, ◌≤◌, Bool, true, false, cond, eqb, ltb, List, [], ◌∷◌, ◌++◌, length, Some, None, Option, sym, refl, ap, ◌∙◌, subst, arith}
-use Rattle.std.proofs.lemmas.Bool.{cond_both, cond-true, cond-false, lt-ltb, eqb-true}
+use Rattle.std.proofs.Common.{◌≡◌, ℕ, ◌<◌, ◌≤◌, true, false, eqb, ltb, List, [], ◌∷◌, ◌++◌, length, Some, None, Option, sym, ap, ◌∙◌, arith}
+use Rattle.std.proofs.lemmas.Bool.{cond_both, cond-true, cond-false, eqb-true}
 use Rattle.net.specs.declared.Block.{Block}
 use Rattle.net.specs.Heads.{head_of, tail_of}
 use Rattle.net.specs.Net.{Net, channels}
-use Rattle.machine.specs.Round.{State, at, firsts, leave, look, move, serve, take, wants}
-use Rattle.round.specs.Fabric.{Steady, arrives, leaves}
+use Rattle.machine.specs.Round.{State, at, firsts, leave, look, move, serve, take}
+use Rattle.round.specs.Fabric.{Steady, arrives}
 
 pub one_first : (q : List Block) (b : Block) → Some b ≡ head_of q → firsts q ≡ b ∷ []
 one_first [] b h = absurd (let x : ◌≡◌ {A = ℕ} 0 1 = cc in omega arith)

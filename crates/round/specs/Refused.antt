@@ -1,5 +1,5 @@
 -- When a call is refused, and with what. Assumes nothing.
-use Rattle.std.specs.Prelude.{◌≡◌, ℕ, ◌+◌, ◌^◌, ◌<◌, ◌≤◌, length}
+use Rattle.std.specs.Prelude.{◌≡◌, ◌+◌, ◌^◌, ◌<◌, ◌≤◌, length}
 use Rattle.net.specs.declared.Block.{Block}
 use Rattle.net.specs.Net.{Net}
 use Rattle.machine.specs.Round.{State}

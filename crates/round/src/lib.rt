@@ -1,4 +1,6 @@
 // The round itself: the fabric that is run by a plan (stores, credits, turns, what waits at doors), and the rounds.
+#![tactic(auto)]
+
 mod channel;
 mod credits;
 mod error;

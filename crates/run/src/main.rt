@@ -1,4 +1,6 @@
 // Plays rounds and prints what comes: for now a built-in star of four switches with a hand-written table.
+#![tactic(auto)]
+
 mod star;
 
 use anyhow::anyhow;

@@ -1,5 +1,5 @@
 -- Rows filled with what is met. Assumes nothing.
-use Rattle.std.proofs.Common.{◌≡◌, ℕ, zero, suc, ◌+◌, ◌-◌, ◌*◌, ◌%◌, ◌^◌, ◌<◌, ◌≤◌, Bool, true, false, cond, ltb, ◌⊎◌, List, length, get_or, take, drop, set, sym, refl, ap, ◌∙◌, subst, inl, inr, ⊎_elim, mul-le-mul_right, arith}
+use Rattle.std.proofs.Common.{◌≡◌, ℕ, suc, ◌+◌, ◌-◌, ◌*◌, ◌<◌, ◌≤◌, Bool, cond, ltb, List, length, get_or, take, drop, set, sym, refl, ap, ◌∙◌, subst, ⊎_elim, mul-le-mul_right, arith}
 use borrow.Rule.Slice.PartMut.{put_mid}
 use Rattle.std.proofs.lemmas.List.{get_or-set_same, get_or-set_other, length-take-le, length-drop, get_or-take, get_or-drop}
 use Rattle.std.proofs.lemmas.Bool.{lt-ltb, le-ltb, cases_lt, cases_eq, cond-true, cond-false}
@@ -9,7 +9,7 @@ use Rattle.graph.specs.Graph.{Graph, graph_by}
 use Rattle.graph.specs.Sets.{has}
 use Rattle.graph.proofs.Bits.{each_in}
 use Rattle.tree.specs.Planted.{up_by}
-use Rattle.table.specs.Kept.{start, whole, met, kept}
+use Rattle.table.specs.Kept.{start, met, kept}
 use Rattle.table.specs.Cells.{state_of}
 use Rattle.table.specs.Marked.{Ready, marked, Copied, RowOf}
 use Rattle.table.proofs.Parts.{put_in, put_before, put_after}

@@ -1,18 +1,17 @@
 -- Going by the table: from a state near enough it comes nearer with each link; what is met, and where entries are here. Assumes nothing.
-use Rattle.std.proofs.Common.{◌≡◌, ℕ, zero, suc, ◌+◌, ◌-◌, ◌*◌, ◌<◌, ◌≤◌, Bool, true, false, cond, not, ◌&&◌, ◌||◌, eqb, ltb, ◌⊎◌, List, [], ◌∷◌, length, sym, refl, ap, ◌∙◌, subst, inl, inr, ⊎_elim, arith}
-use Rattle.std.proofs.lemmas.Bool.{eqb-true, eqb-false, eq-eqb, ne_eqb, ltb-true, lt-ltb, le-ltb, cases_Bool, cases_lt, cases_eq, cond-true, cond-false, and_parts, or_cases, or_left, or_right, both_ways}
+use Rattle.std.proofs.Common.{◌≡◌, ℕ, zero, suc, ◌+◌, ◌-◌, ◌*◌, ◌<◌, ◌≤◌, Bool, true, false, cond, ◌||◌, eqb, ltb, ◌⊎◌, sym, refl, ap, ◌∙◌, subst, inl, inr, ⊎_elim, arith}
+use Rattle.std.proofs.lemmas.Bool.{eqb-true, eq-eqb, lt-ltb, le-ltb, cases_Bool, cases_lt, cond-true, cond-false, or_cases, or_left, or_right, both_ways}
 use Rattle.net.specs.declared.Entry.{Entry}
 use Rattle.net.specs.declared.Entry.TheVariants.{Here, Link}
-use Rattle.roads.specs.Numbers.{some}
-use Rattle.roads.specs.Roads.{Road, there, along, shortest, first}
+use Rattle.roads.specs.Roads.{shortest, first}
 use Rattle.roads.proofs.Below.{some_from, some_one}
-use Rattle.roads.proofs.Roads.{first_is, first_lowest, none_shorter, shortest_goal, shortest_away, shortest_fits}
+use Rattle.roads.proofs.Roads.{first_is, none_shorter}
 use Rattle.graph.specs.Graph.{Graph}
 use Rattle.graph.specs.Tree.{level}
 use Rattle.tree.specs.Legal.{goes_up, legal, stands}
 use Rattle.tree.specs.Laws.{Sound}
 use Rattle.tree.proofs.Ways.{legal_roads}
-use Rattle.table.specs.Kept.{most, start, onward, whole, goes_on, passes, met, kept}
+use Rattle.table.specs.Kept.{most, start, onward, whole, goes_on, passes, met}
 
 -- how it goes on from state x: it has come, or goes by the first link, after which it is one nearer
 pub data Next (g : Graph) (up : ℕ → Bool) (p : ℕ) (x : Bool × ℕ) : Entry → Type 0 where

@@ -1,21 +1,21 @@
 -- One link more and one layer more while legal roads are looked for. Assumes nothing.
-use Rattle.std.proofs.Common.{◌≡◌, ℕ, zero, suc, ◌+◌, ◌-◌, ◌*◌, ◌<◌, ◌≤◌, Bool, true, false, cond, not, ◌&&◌, ◌||◌, eqb, ltb, ◌⊎◌, List, length, get_or, set, sym, refl, ap, ◌∙◌, subst, inl, inr, ⊎_elim, arith}
+use Rattle.std.proofs.Common.{◌≡◌, ℕ, suc, ◌+◌, ◌-◌, ◌*◌, ◌<◌, Bool, true, false, cond, not, ◌&&◌, ◌||◌, ltb, List, length, get_or, sym, refl, ap, ◌∙◌, ⊎_elim, arith}
 use lib.Bits.{bit_or}
 use Rattle.std.proofs.lemmas.List.{get_or-set_same, get_or-set_other}
-use Rattle.std.proofs.lemmas.Bool.{eqb-true, eq-eqb, ne_eqb, lt-ltb, le-ltb, cases_Bool, cases_lt, cases_eq, cond-true, cond-false, and_from, and_left, and_right, or_parts, or_from, or_left, not_from_true, not_from_false, both_ways}
+use Rattle.std.proofs.lemmas.Bool.{lt-ltb, le-ltb, cases_Bool, cond-true, cond-false, and_from, and_left, and_right, or_parts, or_from, or_left, not_from_true, not_from_false}
 use Rattle.net.specs.declared.Entry.{Entry}
 use Rattle.net.specs.declared.Entry.TheVariants.{Here, Link}
 use Rattle.roads.specs.Numbers.{some}
-use Rattle.roads.specs.Roads.{within, shortest, first}
+use Rattle.roads.specs.Roads.{within}
 use Rattle.roads.proofs.Below.{some_none}
-use Rattle.roads.proofs.Roads.{goes, within_layer, within_zero, goal_within, first_found}
+use Rattle.roads.proofs.Roads.{goes, first_found}
 use Rattle.graph.specs.Graph.{Graph}
 use Rattle.graph.specs.Sets.{has}
 use Rattle.graph.proofs.Bits.{has_or}
-use Rattle.graph.proofs.Adding.{some_more, some_start, or_nothing}
+use Rattle.graph.proofs.Adding.{some_more, or_nothing}
 use Rattle.tree.specs.Legal.{legal, stands}
 use Rattle.table.specs.Kept.{most, onward}
-use Rattle.table.specs.Cells.{state_of, index_of, reached_by, Cell, Layer, Held, Relaxed}
+use Rattle.table.specs.Cells.{state_of, index_of, reached_by, Cell, Held, Relaxed}
 use Rattle.table.proofs.Follow.{away_at}
 
 pub high_state : (n s : ℕ) → s < n → state_of n s ≡ (true, s)

@@ -1,9 +1,9 @@
 -- A road walked from a door: what is marked is met, and marks are closed under going on. Assumes nothing.
-use Rattle.std.proofs.Common.{◌≡◌, ℕ, zero, suc, ◌+◌, ◌-◌, ◌*◌, ◌%◌, ◌^◌, ◌<◌, ◌≤◌, Bool, true, false, cond, not, ◌&&◌, ◌||◌, eqb, ltb, ◌⊎◌, List, length, get_or, set, sym, refl, ap, ◌∙◌, subst, inl, inr, ⊎_elim, arith}
+use Rattle.std.proofs.Common.{◌≡◌, ℕ, suc, ◌+◌, ◌-◌, ◌*◌, ◌%◌, ◌^◌, ◌<◌, ◌≤◌, Bool, true, false, ◌&&◌, ◌||◌, eqb, ◌⊎◌, List, length, get_or, set, sym, refl, ap, ◌∙◌, subst, inl, inr, ⊎_elim, arith}
 use lib.Bits.{bit_or}
 use Rattle.std.proofs.lemmas.List.{get_or-set_same, get_or-set_other}
 use Rattle.std.proofs.lemmas.Nat.{mul-le}
-use Rattle.std.proofs.lemmas.Bool.{eqb-true, eq-eqb, ne_eqb, lt-ltb, le-ltb, cases_Bool, cases_lt, cases_eq, cond-true, cond-false, and_parts, and_from, and_left, or_cases, or_left, or_right, both_ways}
+use Rattle.std.proofs.lemmas.Bool.{eqb-true, eq-eqb, ne_eqb, cases_Bool, cases_eq, and_parts, and_from, and_left, or_cases, or_left, or_right, both_ways}
 use Rattle.net.specs.declared.Entry.{Entry}
 use Rattle.net.specs.declared.Entry.TheVariants.{Here, Link}
 use Rattle.roads.specs.Roads.{shortest}
@@ -13,10 +13,10 @@ use Rattle.graph.proofs.Bits.{has_or, has_shl}
 use Rattle.tree.specs.Legal.{legal, stands}
 use Rattle.tree.specs.Planted.{up_by}
 use Rattle.table.specs.Kept.{most, start, onward, whole, met}
-use Rattle.table.specs.Cells.{state_of, index_of}
+use Rattle.table.specs.Cells.{state_of}
 use Rattle.table.specs.Marked.{Ready, marked, OnlyMet, Closed, Opened, More, Walks}
 use Rattle.table.proofs.Layering.{high_state, low_state}
-use Rattle.table.proofs.Follow.{Comes, same, by, comes_on, not_both, start_link, start_door, link_is, nearer, met_comes, comes_met}
+use Rattle.table.proofs.Follow.{Comes, same, by, comes_on, not_both, start_link, start_door, link_is, met_comes, comes_met}
 
 linked : (e : Entry) (d k : ℕ) → e ≡ Link d → e ≡ Link k → d ≡ k
 linked e d k p q = cc

@@ -1,10 +1,9 @@
 -- The first layer, one layer more, and what all layers find. Assumes nothing.
-use Rattle.std.proofs.Common.{◌≡◌, ℕ, zero, suc, ◌+◌, ◌-◌, ◌*◌, ◌%◌, ◌^◌, ◌<◌, ◌≤◌, Bool, true, false, cond, not, ◌&&◌, ◌||◌, eqb, ltb, ◌⊎◌, List, length, get_or, set, sym, refl, ap, ◌∙◌, subst, inl, inr, ⊎_elim, arith}
+use Rattle.std.proofs.Common.{◌≡◌, ℕ, zero, suc, ◌+◌, ◌-◌, ◌*◌, ◌%◌, ◌^◌, ◌<◌, ◌≤◌, Bool, true, false, cond, ◌||◌, eqb, ltb, ◌⊎◌, List, length, get_or, set, sym, refl, ap, ◌∙◌, subst, inl, inr, ⊎_elim, arith}
 use Rattle.std.proofs.lemmas.List.{get_or-set_same, get_or-set_other}
 use Rattle.std.proofs.lemmas.Bool.{lt-ltb, le-ltb, cases_Bool, cases_lt, cases_eq, cond-true, cond-false, cond_both, both_ways, and_parts, and_from}
 use Rattle.net.specs.declared.Entry.{Entry}
 use Rattle.net.specs.declared.Entry.TheVariants.{Here, Link}
-use Rattle.roads.specs.Numbers.{some}
 use Rattle.roads.specs.Roads.{within, shortest, first}
 use Rattle.roads.proofs.Roads.{goes, within_layer, within_zero, within_cases, within_more, goes_within, goal_within, shortest_within}
 use Rattle.graph.specs.Graph.{Graph}
@@ -13,7 +12,7 @@ use Rattle.graph.proofs.Bits.{has_shl}
 use Rattle.graph.proofs.Adding.{some_start, or_nothing}
 use Rattle.tree.specs.Legal.{legal, stands}
 use Rattle.table.specs.Kept.{most, onward}
-use Rattle.table.specs.Cells.{state_of, index_of, reached_by, Cell, Layer, Held, Found}
+use Rattle.table.specs.Cells.{state_of, index_of, reached_by, Layer, Held, Found}
 use Rattle.table.proofs.Follow.{here_at}
 use Rattle.table.proofs.Layering.{index_state}
 

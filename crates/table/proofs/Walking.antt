@@ -1,11 +1,11 @@
 -- Road after road and door after door. Assumes nothing.
-use Rattle.std.proofs.Common.{◌≡◌, ℕ, ◌+◌, ◌^◌, ◌<◌, ◌≤◌, Bool, true, false, ◌⊎◌, List, get_or, sym, refl, ap, ◌∙◌, subst, inl, inr, ⊎_elim, arith}
+use Rattle.std.proofs.Common.{◌≡◌, ℕ, ◌+◌, ◌<◌, Bool, false, List, get_or, sym, ap, ◌∙◌, subst, ⊎_elim, arith}
 use Rattle.std.proofs.lemmas.Nat.{pow_pos}
 use Rattle.std.proofs.lemmas.Bool.{cases_eq, both_ways}
 use Rattle.graph.specs.Graph.{Graph}
 use Rattle.graph.specs.Sets.{has}
 use Rattle.graph.proofs.Bits.{has_past}
-use Rattle.table.specs.Marked.{marked, OnlyMet, Closed, Opened, More, Walks}
+use Rattle.table.specs.Marked.{marked, OnlyMet, Closed, Opened, Walks}
 
 module _ (g : Graph) (up : ℕ → Bool) where
   pub walks_none : (s : ℕ) (ms : List ℕ) → Walks g up s (λ q. q < 0) ms ms

@@ -1,7 +1,6 @@
 -- What the layout holds, from the lists that it is made of. Assumes nothing.
-use Rattle.std.proofs.Common.{◌≡◌, ℕ, zero, suc, ◌+◌, ◌-◌, ◌*◌, ◌<◌, ◌≤◌, Bool, true, false, cond, ◌&&◌, ◌||◌, eqb, ltb, ◌⊎◌, List, [], ◌∷◌, ◌++◌, map, length, get_or, take, replicate, vec_items, sym, refl, ap, ◌∙◌, subst, inl, inr, ⊎_elim, arith}
+use Rattle.std.proofs.Common.{◌≡◌, ℕ, ◌+◌, ◌-◌, ◌*◌, ◌<◌, ◌≤◌, Bool, false, ◌&&◌, eqb, ltb, List, ◌++◌, length, get_or, take, replicate, vec_items, sym, ap, ◌∙◌, subst, ⊎_elim, arith}
 use mathlib.Core.Path.{fun_ext}
-use Rattle.std.specs.List.{range_with_len}
 use Rattle.std.proofs.lemmas.List.FromFn.{length-map-range_with_len, get_or-map-range_with_len}
 use Rattle.std.proofs.lemmas.List.{get_or_past, get_or-take, length-take, get_or_append_left, get_or-append_right, get_or-replicate, length-replicate, length-append}
 use Rattle.std.proofs.lemmas.Bool.{cases_lt, le-ltb, or_from, and_right}
@@ -9,11 +8,10 @@ use Rattle.net.specs.declared.Entry.{Entry}
 use Rattle.net.specs.declared.Entry.TheVariants.{Here}
 use Rattle.net.specs.declared.layout.Layout.{Layout}
 use Rattle.roads.specs.Roads.{shortest}
-use Rattle.graph.specs.Graph.{Graph, graph_by}
+use Rattle.graph.specs.Graph.{graph_by}
 use Rattle.graph.specs.Tree.{level}
 use Rattle.tree.specs.Legal.{above, goes_up, rank_of, legal, stands}
-use Rattle.tree.specs.Planted.{up_by, up_list, rank_list}
-use Rattle.tree.specs.Laws.{Sound}
+use Rattle.tree.specs.Planted.{up_by, up_list}
 use Rattle.tree.specs.declared.planted.Tree.{Tree}
 use Rattle.tree.proofs.Growing.{sound_in, ends_in}
 use Rattle.table.specs.Kept.{most, start, kept}

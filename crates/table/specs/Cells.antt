@@ -1,15 +1,14 @@
 -- What the code's sets and cells hold while legal roads are looked for, layer by layer and link by link. Assumes nothing.
-use Rattle.std.specs.Prelude.{◌≡◌, ℕ, suc, ◌+◌, ◌-◌, ◌*◌, ◌<◌, ◌≤◌, Bool, true, false, cond, not, ◌&&◌, ◌||◌, List, length, set, ◌≢◌, bit_or, nat_lt, slice_index, slice_index_or, slice_set}
+use Rattle.std.specs.Prelude.{◌≡◌, ℕ, ◌+◌, ◌-◌, ◌*◌, ◌<◌, ◌≤◌, Bool, true, false, cond, not, ◌&&◌, ◌||◌, List, length, ◌≢◌, bit_or, nat_lt, slice_index, slice_index_or, slice_set}
 use Rattle.net.specs.declared.Entry.{Entry}
 use Rattle.net.specs.declared.Entry.TheVariants.{Here, Link}
 use Rattle.roads.specs.Numbers.{some}
 use Rattle.roads.specs.Roads.{within}
-use Rattle.graph.specs.Graph.{Graph, graph_by}
+use Rattle.graph.specs.Graph.{Graph}
 use Rattle.graph.specs.Layers.{Ends}
 use Rattle.graph.specs.Sets.{has}
 use Rattle.tree.specs.Legal.{legal, stands}
-use Rattle.tree.specs.Planted.{up_by}
-use Rattle.table.specs.Kept.{most, onward}
+use Rattle.table.specs.Kept.{onward}
 
 -- the state that stands at index i: switch i while links up may be taken, and n + s for switch s after a link down
 abbrev pub state_of : ℕ → ℕ → Bool × ℕ

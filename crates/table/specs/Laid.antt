@@ -1,5 +1,5 @@
 -- The layout of a net whose cables are a graph with a root. Assumes nothing.
-use Rattle.std.specs.Prelude.{◌≡◌, ℕ, ◌+◌, ◌*◌, ◌<◌, ◌≤◌, Bool, length, vec_items, vec_len, slice_index, slice_index_or}
+use Rattle.std.specs.Prelude.{◌≡◌, ℕ, ◌+◌, ◌*◌, ◌<◌, ◌≤◌, length, vec_items, slice_index, slice_index_or}
 use Rattle.net.specs.declared.layout.Layout.{Layout}
 use Rattle.net.specs.declared.Entry.TheVariants.{Here}
 use Rattle.graph.specs.Graph.{Graph}

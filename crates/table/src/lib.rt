@@ -1,6 +1,8 @@
 // The table of a tree: for each channel and place the first link of a shortest legal road, kept where a block from a door
 // can meet it; and the layout of the net with that table, ranks and ends. The theorem: the layout of every accepted list
 // of cables can be served, its net is good, and it leads every door's blocks to every place.
+#![tactic(auto)]
+
 mod cells;
 mod error;
 mod laws;

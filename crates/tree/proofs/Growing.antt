@@ -1,9 +1,9 @@
 -- What is known of an accepted list of cables, and the lists that are made of it. Assumes nothing.
-use Rattle.std.proofs.Common.{◌≡◌, ℕ, ◌<◌, ◌≤◌, Bool, List, length, get_or, vec_items, sym, refl, ap, ◌∙◌, subst, arith}
+use Rattle.std.proofs.Common.{◌≡◌, ℕ, ◌<◌, Bool, List, length, get_or, vec_items, sym, ap, ◌∙◌, subst, arith}
 use Rattle.graph.specs.declared.cabling.Cabling.{Cabling}
 use Rattle.graph.specs.Graph.{Graph, graph_by}
 use Rattle.graph.specs.Tree.{level}
-use Rattle.graph.specs.Layers.{Ends, Levelled}
+use Rattle.graph.specs.Layers.{Ends}
 use Rattle.graph.specs.Refusal.{Levels}
 use Rattle.tree.specs.Laws.{Sound}
 use Rattle.tree.specs.Planted.{level_by, up_list, rank_list, ranks_by}

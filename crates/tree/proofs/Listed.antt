@@ -1,12 +1,11 @@
 -- The lists that the code makes are those of the definitions. Assumes nothing.
-use Rattle.std.proofs.Common.{◌≡◌, ℕ, zero, suc, ◌+◌, ◌-◌, ◌*◌, ◌<◌, ◌≤◌, Bool, true, false, cond, not, ◌&&◌, ◌||◌, eqb, ltb, List, [], ◌∷◌, ◌++◌, map, length, get_or, sym, refl, ap, ◌∙◌, subst, arith}
+use Rattle.std.proofs.Common.{◌≡◌, ℕ, zero, suc, ◌+◌, ◌*◌, ◌<◌, ◌≤◌, Bool, false, ◌&&◌, ◌||◌, eqb, ltb, List, [], ◌∷◌, ◌++◌, map, length, get_or, sym, refl, ap, ◌∙◌, arith}
 use Rattle.std.specs.List.{range_with_len}
 use Rattle.std.proofs.lemmas.List.FromFn.{map-range_with_len_more, length-map-range_with_len, get_or-map-range_with_len}
 use Rattle.std.proofs.lemmas.Nat.{mul-le}
 use Rattle.graph.specs.Graph.{Graph, graph_by}
-use Rattle.graph.specs.Tree.{level}
 use Rattle.graph.specs.Layers.{Ends}
-use Rattle.tree.specs.Legal.{above, goes_up, rank_of}
+use Rattle.tree.specs.Legal.{goes_up, rank_of}
 use Rattle.tree.specs.Planted.{level_by, up_list, rank_list, rank_by, ranks_by}
 
 pub none_of : {X : Type 0} (f : ℕ → X) → [] ≡ map f (range_with_len 0 0)

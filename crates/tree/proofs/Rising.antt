@@ -1,10 +1,10 @@
 -- Along legal roads ranks rise. Assumes nothing.
-use Rattle.std.proofs.Common.{◌≡◌, ℕ, zero, suc, ◌+◌, ◌-◌, ◌*◌, ◌<◌, ◌≤◌, Bool, true, false, cond, not, ◌&&◌, ◌||◌, eqb, ltb, ◌⊎◌, sym, refl, ap, ◌∙◌, subst, inl, inr, ⊎_elim, mul-le-mul_right, arith}
-use Rattle.std.proofs.lemmas.Bool.{eqb-true, eqb-false, ltb-true, ltb-false, cases_Bool, cases_eq, cases_lt, or_cases, or_parts, and_parts, and_cases, cond-true, cond-false, not-true, not_from_true, both_ways}
+use Rattle.std.proofs.Common.{◌≡◌, ℕ, suc, ◌+◌, ◌-◌, ◌*◌, ◌<◌, ◌≤◌, Bool, true, false, not, ◌&&◌, ◌||◌, eqb, ltb, sym, ap, ⊎_elim, mul-le-mul_right, arith}
+use Rattle.std.proofs.lemmas.Bool.{eqb-true, eqb-false, ltb-true, ltb-false, cases_Bool, cases_lt, or_cases, or_parts, and_parts, and_cases, cond-true, cond-false, not-true, both_ways}
 use Rattle.graph.specs.Graph.{Graph}
 use Rattle.graph.specs.Tree.{level}
-use Rattle.tree.specs.Legal.{above, goes_up, number, rank_of, legal}
-use Rattle.tree.specs.Laws.{Sound, RanksRise}
+use Rattle.tree.specs.Legal.{above, goes_up, number, rank_of}
+use Rattle.tree.specs.Laws.{RanksRise}
 
 -- a lower level has a lower number, whatever the switches
 low_number : (n l m a b : ℕ) → l < m → a < n → l * n + a < m * n + b

@@ -1,10 +1,10 @@
 -- From every switch a legal road leads to every other: up to the root, and down from it. Assumes nothing.
-use Rattle.std.proofs.Common.{◌≡◌, ℕ, zero, suc, ◌+◌, ◌<◌, ◌≤◌, Bool, true, false, cond, not, ◌&&◌, ◌||◌, eqb, ltb, ◌⊎◌, List, [], ◌∷◌, ◌++◌, length, sym, refl, ap, ◌∙◌, subst, inl, inr, ⊎_elim, arith, length-append}
-use Rattle.std.proofs.lemmas.Bool.{eqb-true, eq-eqb, ne_eqb, lt-ltb, le-ltb, cases_eq, and_from, or_left, or_right, or_from, and_left, not_from_false}
+use Rattle.std.proofs.Common.{◌≡◌, ℕ, zero, suc, ◌+◌, ◌<◌, Bool, true, false, not, ◌&&◌, ◌||◌, eqb, ltb, List, [], ◌∷◌, ◌++◌, length, sym, refl, ap, ◌∙◌, subst, arith, length-append}
+use Rattle.std.proofs.lemmas.Bool.{eqb-true, eq-eqb, ne_eqb, lt-ltb, le-ltb, and_from, or_left, or_right, or_from, and_left, not_from_false}
 use Rattle.roads.specs.Roads.{Road, there, along}
 use Rattle.graph.specs.Graph.{Graph, partner}
 use Rattle.graph.specs.Tree.{level}
-use Rattle.tree.specs.Legal.{above, goes_up, legal, stands}
+use Rattle.tree.specs.Legal.{goes_up, legal, stands}
 use Rattle.tree.specs.Laws.{Sound, LegalRoads}
 use Rattle.tree.proofs.Higher.{one_higher, root_level, root_alone}
 

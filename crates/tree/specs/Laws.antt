@@ -1,6 +1,6 @@
 -- What is proved of a tree: every switch but the root has a link to one a level higher, and ranks rise along legal roads. Assumes nothing.
-use Rattle.std.specs.Prelude.{◌≡◌, ℕ, suc, ◌+◌, ◌<◌, ◌≤◌, Bool, true, List, length, ◌≢◌}
-use Rattle.roads.specs.Roads.{Road, shortest}
+use Rattle.std.specs.Prelude.{◌≡◌, ℕ, suc, ◌+◌, ◌<◌, true, List, length, ◌≢◌}
+use Rattle.roads.specs.Roads.{Road}
 use Rattle.graph.specs.Graph.{Graph, TwoWay}
 use Rattle.graph.specs.Tree.{Joined, level}
 use Rattle.tree.specs.Legal.{goes_up, rank_of, legal, stands}

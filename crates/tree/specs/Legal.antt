@@ -1,5 +1,5 @@
 -- Above, up and down by the levels of a tree; the number of a switch and the rank of a link; legal roads. Assumes nothing.
-use Rattle.std.specs.Prelude.{ℕ, ◌+◌, ◌-◌, ◌*◌, Bool, true, false, cond, not, ◌&&◌, ◌||◌, ◌==◌, nat_lt}
+use Rattle.std.specs.Prelude.{ℕ, ◌+◌, ◌-◌, ◌*◌, Bool, cond, not, ◌&&◌, ◌||◌, ◌==◌, nat_lt}
 use Rattle.roads.specs.Roads.{Moves}
 use Rattle.graph.specs.Graph.{Graph}
 

@@ -1,7 +1,7 @@
 -- What the lists of a tree hold: for each link whether it goes up, and its rank. Assumes nothing.
-use Rattle.std.specs.Prelude.{◌≡◌, ℕ, ◌+◌, ◌-◌, ◌*◌, Bool, false, cond, List, map, length, slice_index, slice_index_or}
+use Rattle.std.specs.Prelude.{ℕ, ◌+◌, ◌-◌, ◌*◌, Bool, false, cond, List, map, length, slice_index, slice_index_or}
 use Rattle.std.specs.List.{range_with_len}
-use Rattle.graph.specs.Graph.{Graph, graph_by}
+use Rattle.graph.specs.Graph.{Graph}
 use Rattle.tree.specs.Legal.{goes_up, rank_of}
 
 -- the level of a switch by a list

@@ -1,6 +1,8 @@
 // The tree of an accepted list of cables: levels from a root, which links go up and which down, and a rank for each link.
 // The theorems: every switch but the root has a link to one a level higher, legal roads lead everywhere, and ranks rise
 // along them.
+#![tactic(auto)]
+
 mod laws;
 mod planted;
 mod planting;

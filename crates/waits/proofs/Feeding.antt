@@ -1,10 +1,9 @@
 -- Counting feeders channel by channel, and a channel place by place. Assumes nothing.
-use Rattle.std.proofs.Common.{◌≡◌, ℕ, zero, suc, ◌+◌, ◌*◌, ◌<◌, ◌≤◌, Bool, true, false, cond, ◌||◌, eqb, ◌⊎◌, List, [], ◌∷◌, length, get_or, set, replicate, sym, refl, ap, ◌∙◌, subst, inl, inr, ⊎_elim, add-one, arith}
+use Rattle.std.proofs.Common.{◌≡◌, ℕ, zero, suc, ◌+◌, ◌<◌, ◌≤◌, Bool, true, false, cond, ◌||◌, eqb, List, length, get_or, set, replicate, sym, refl, ap, ◌∙◌, subst, ⊎_elim, add-one, arith}
 use Rattle.std.proofs.lemmas.List.{length-set, length-replicate, get_or-replicate, get_or_past, get_or-set_same, get_or-set_other}
-use Rattle.std.proofs.lemmas.Bool.{cond_both, cond-true, cond-false, eq-eqb, ne_eqb, eqb-true, eqb-false, cases_eq, cases_lt}
-use Rattle.net.specs.declared.Entry.{Entry}
+use Rattle.std.proofs.lemmas.Bool.{cond_both, eq-eqb, ne_eqb, cases_eq, cases_lt}
 use Rattle.net.specs.declared.Entry.TheVariants.{Here, Link}
-use Rattle.net.specs.Net.{Net, Good, channels, is_to}
+use Rattle.net.specs.Net.{Net, channels}
 use Rattle.machine.specs.Waits.{feeds, feeders}
 use Rattle.waits.specs.Feeding.{Counted}
 use Rattle.waits.specs.Working.{Fed}

@@ -1,5 +1,5 @@
 -- A step along a road: what is left of the sum, and that it stays small. Assumes nothing.
-use Rattle.std.proofs.Common.{◌≡◌, ℕ, ◌+◌, ◌*◌, ◌^◌, ◌<◌, ◌≤◌, sym, refl, ap, ◌∙◌, arith}
+use Rattle.std.proofs.Common.{◌≡◌, ℕ, ◌+◌, ◌*◌, ◌^◌, ◌<◌, ◌≤◌, ap, arith}
 use Rattle.std.proofs.lemmas.Nat.{mul-le}
 use Rattle.net.specs.declared.Entry.TheVariants.{Link}
 use Rattle.net.specs.Net.{Net, Good, channels}

@@ -1,5 +1,5 @@
 -- The star's feeders, patience and wait, computed. Assumes nothing.
-use Rattle.std.proofs.Common.{◌≡◌, refl}
+use Rattle.std.proofs.Common.{refl}
 use Rattle.machine.specs.Waits.{feeders, feeds, within, worst, onward}
 use Rattle.waits.specs.Star.{StarWaits}
 

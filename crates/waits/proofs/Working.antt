@@ -1,8 +1,8 @@
 -- Patience place by place, and a list of patiences slot by slot. Assumes nothing.
-use Rattle.std.proofs.Common.{◌≡◌, ℕ, zero, suc, ◌+◌, ◌*◌, ◌<◌, ◌≤◌, max, Bool, true, false, cond, ◌||◌, eqb, ◌⊎◌, List, ◌++◌, length, get_or, take, drop, set, replicate, sym, refl, ap, ◌∙◌, subst, inl, inr, ⊎_elim, mul-le-mul_right, one-mul, add-one, arith}
+use Rattle.std.proofs.Common.{◌≡◌, ℕ, zero, suc, ◌+◌, ◌*◌, ◌<◌, ◌≤◌, max, Bool, true, cond, ◌⊎◌, List, ◌++◌, length, get_or, take, drop, set, replicate, sym, refl, ap, ◌∙◌, subst, inl, inr, ⊎_elim, mul-le-mul_right, add-one, arith}
 use native.Mathlib.Nat.{le-max_left, le-max_right, max_comm, max-eq_left, max-eq_right, max-le}
 use Rattle.std.proofs.lemmas.List.{length-set, length-replicate, get_or-replicate, take_at, get_or-set_same, get_or-set_other}
-use Rattle.std.proofs.lemmas.Bool.{eq-eqb, cases_eq, cases_lt, or_left, or_right, cond-true}
+use Rattle.std.proofs.lemmas.Bool.{eq-eqb, cases_eq, cases_lt, or_left, or_right}
 use Rattle.net.specs.declared.Entry.{Entry}
 use Rattle.net.specs.declared.Entry.TheVariants.{Here, Link}
 use Rattle.net.specs.Net.{Net, Good, channels, is_to}

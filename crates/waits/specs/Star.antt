@@ -1,8 +1,8 @@
 -- A star of four switches with stores of two: the wait from a leaf to another. Assumes nothing.
-use Rattle.std.specs.Prelude.{◌≡◌, ℕ, zero, suc, ◌+◌, ◌-◌, ◌*◌, ◌/◌, ◌%◌, ◌<◌, Bool, true, false, cond, ◌==◌, nat_lt}
+use Rattle.std.specs.Prelude.{◌≡◌, ℕ, zero, suc, ◌+◌, ◌-◌, ◌*◌, ◌/◌, ◌%◌, Bool, cond, ◌==◌, nat_lt}
 use Rattle.net.specs.declared.Entry.{Entry}
 use Rattle.net.specs.declared.Entry.TheVariants.{Here, Link}
-use Rattle.net.specs.Net.{Net, Good, channels}
+use Rattle.net.specs.Net.{Net, channels}
 use Rattle.machine.specs.Waits.{feeders, patience, wait}
 
 -- Cable k joins leaf k + 1 and the middle, switch 0: link 2k goes up to the middle, link 2k + 1 down to the leaf. Door s is channel 6 + s.

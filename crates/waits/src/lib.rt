@@ -1,4 +1,6 @@
 // How long a block can wait, worked out for a plan before it runs: the patience of each channel and the wait of a block.
+#![tactic(auto)]
+
 ghost use Rattle.waits.specs.Laws.{PatienceLaw, LargestLaw, WaitLaw};
 ghost use Rattle.waits.specs.Star.{StarWaits};
 

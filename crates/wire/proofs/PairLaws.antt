@@ -1,10 +1,10 @@
 -- Rows of things of two bytes: what is accepted is the encoding, and a cut is refused. Assumes what each law names.
-use Rattle.std.proofs.Common.{◌≡◌, ℕ, zero, suc, ◌+◌, ◌*◌, ◌/◌, ◌<◌, List, [], ◌∷◌, length, get_or, take, drop, Ok, Err, Result, sym, refl, ap, ◌∙◌, subst, arith}
+use Rattle.std.proofs.Common.{◌≡◌, ℕ, zero, suc, ◌+◌, ◌*◌, ◌/◌, ◌<◌, List, [], ◌∷◌, length, get_or, take, drop, Ok, Err, Result, refl, ap, ◌∙◌, subst, arith}
 use Rattle.wire.specs.declared.fault.Fault.{Fault}
 use Rattle.wire.specs.declared.fault.Fault.TheVariants.{Cut}
 use Rattle.wire.specs.declared.fault.Refusal.{Refusal}
 use Rattle.wire.specs.Faults.{refusal}
-use Rattle.wire.specs.Pairs.{Each, Bytes, placed, after, pair_at, pairs, pair_bytes}
+use Rattle.wire.specs.Pairs.{Each, Bytes, placed, after, pairs, pair_bytes}
 
 pub wrong : {A E : Type 0} (B : Type 0) (e : E) (x : A) → Err e ≡ Ok x → B
 wrong B e x q = let z : ◌≡◌ {A = ℕ} 0 1 = cc in absurd (omega arith)

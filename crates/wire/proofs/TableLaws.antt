@@ -1,5 +1,5 @@
 -- Foreign tables: accepted files are encodings, encodings are accepted, cuts are refused. Assumes nothing.
-use Rattle.std.proofs.Common.{◌≡◌, ℕ, ◌+◌, ◌-◌, ◌*◌, ◌/◌, ◌%◌, ◌<◌, ◌≤◌, Bool, true, false, cond, eqb, leb, ◌⊎◌, List, [], ◌∷◌, length, get_or, take, drop, Some, None, Ok, Err, Option, Result, sym, refl, ap, ◌∙◌, subst, inl, inr, arith}
+use Rattle.std.proofs.Common.{◌≡◌, ℕ, ◌+◌, ◌-◌, ◌*◌, ◌/◌, ◌%◌, ◌<◌, ◌≤◌, eqb, leb, ◌⊎◌, List, ◌∷◌, length, get_or, take, drop, Some, None, Ok, Err, Option, Result, sym, refl, ap, ◌∙◌, subst, inl, inr, arith}
 use Rattle.std.proofs.lemmas.List.{get_or-take, drop-take, length-drop}
 use Rattle.std.proofs.lemmas.Bool.{cond_both, cond-true, cond-false, eqb-true, eqb-false, leb-true, le-leb, ne_eqb, cases_lt}
 use Rattle.net.specs.declared.Entry.{Entry}
@@ -9,22 +9,9 @@ use Rattle.wire.specs.declared.fault.Fault.{Fault}
 use Rattle.wire.specs.declared.fault.Fault.TheVariants.{Cut}
 use Rattle.wire.specs.declared.fault.Refusal.{Refusal}
 use Rattle.wire.specs.Faults.{refusal}
-use Rattle.wire.specs.Pairs.{Each, Bytes, word, pairs, pair_bytes}
+use Rattle.wire.specs.Pairs.{word, pairs, pair_bytes}
 use Rattle.wire.specs.Heads.{beginning, unless}
-use Rattle.wire.specs.Tables.{
-  Foreign,
-  Leads,
-  Shaped,
-  entry_by_bytes,
-  entry_of,
-  entry_number,
-  frame_by_bytes,
-  frame_of,
-  with_entries,
-  then_entries,
-  table_read,
-  encode_table,
-}
+use Rattle.wire.specs.Tables.{Foreign, Leads, entry_by_bytes, entry_of, entry_number, frame_by_bytes, frame_of, with_entries, then_entries, table_read, encode_table}
 use Rattle.wire.specs.Laws.{begin_of, TableEncoded, TableShaped, TableBack, TableCut}
 use Rattle.wire.proofs.PairLaws.{wrong, each_at, each_drop, Filled, pairs_bytes, pairs_each, pairs_back, pairs_cut}
 use Rattle.wire.proofs.HeadLaws.{

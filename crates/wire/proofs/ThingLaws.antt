@@ -1,8 +1,7 @@
 -- Things of a script: what is read is the encoding, the encoding is read, a cut is refused. Assumes nothing.
-use Rattle.std.proofs.Common.{◌≡◌, ℕ, zero, suc, ◌+◌, ◌*◌, ◌/◌, ◌%◌, ◌<◌, ◌≤◌, eqb, ltb, List, [], ◌∷◌, ◌++◌, length, get_or, take, drop, Ok, Err, Result, sym, refl, ap, ◌∙◌, subst, arith}
+use Rattle.std.proofs.Common.{◌≡◌, ℕ, zero, suc, ◌+◌, ◌/◌, ◌%◌, ◌<◌, ◌≤◌, eqb, ltb, List, [], ◌∷◌, ◌++◌, length, get_or, take, drop, Ok, Err, Result, sym, refl, ap, ◌∙◌, subst, arith}
 use Rattle.std.proofs.lemmas.List.{length-take}
 use Rattle.std.proofs.lemmas.Bool.{cond_both, eqb-true, ltb-false}
-use Rattle.net.specs.declared.Block.{Block as Parcel}
 use Rattle.wire.specs.declared.script.Thing.{Thing}
 use Rattle.wire.specs.declared.script.Thing.TheVariants.{Block, Word, Round, Show}
 use Rattle.wire.specs.declared.fault.Fault.TheVariants.{Cut}

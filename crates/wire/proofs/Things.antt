@@ -1,11 +1,10 @@
 -- The things of a script, one by one: what reading gives where a thing is whole, cut or unknown. Assumes nothing.
-use Rattle.std.proofs.Common.{◌≡◌, ℕ, ◌+◌, ◌<◌, ◌≤◌, eqb, ltb, List, [], ◌∷◌, length, get_or, drop, Ok, Err, Result, sym, refl, ap, ◌∙◌, arith}
+use Rattle.std.proofs.Common.{◌≡◌, ℕ, ◌+◌, ◌<◌, ◌≤◌, eqb, ltb, List, ◌∷◌, length, get_or, drop, Ok, Err, sym, refl, ap, ◌∙◌, arith}
 use Rattle.std.proofs.lemmas.List.{drop_more, drop_all, get_or-drop, length-drop}
 use Rattle.std.proofs.lemmas.Bool.{cond-true, cond-false, lt-ltb, le-ltb, ne_eqb}
 use Rattle.wire.specs.declared.script.Thing.{Thing}
 use Rattle.wire.specs.declared.script.Thing.TheVariants.{Block, Word, Round, Show}
 use Rattle.wire.specs.declared.fault.Fault.TheVariants.{Kind, Cut}
-use Rattle.wire.specs.declared.fault.Refusal.{Refusal}
 use Rattle.wire.specs.Faults.{refusal}
 use Rattle.wire.specs.Pairs.{word}
 use Rattle.wire.specs.Script.{block_of, sized, thing_read}

@@ -1,5 +1,5 @@
 -- Lists of cables: the file 1, n, m, count (2), then two switches for each cable. Assumes nothing.
-use Rattle.std.specs.Prelude.{◌≡◌, ℕ, ◌+◌, ◌/◌, ◌%◌, ◌<◌, ◌≤◌, cond, List, [], ◌∷◌, ◌++◌, length, drop, Ok, Err, vec_items, Result, ◌==◌, nat_le, nat_lt, slice_index}
+use Rattle.std.specs.Prelude.{◌≡◌, ℕ, ◌/◌, ◌%◌, ◌<◌, ◌≤◌, cond, List, ◌∷◌, length, drop, Ok, Err, vec_items, Result, ◌==◌, nat_le, nat_lt, slice_index}
 use Rattle.wire.specs.declared.cables.Cable.{Cable}
 use Rattle.wire.specs.declared.cables.CableList.{CableList}
 use Rattle.wire.specs.declared.cables.Head.{Head}

@@ -1,5 +1,5 @@
 -- The laws of reading: each is proved, and is the contract of one function. Assumes nothing.
-use Rattle.std.specs.Prelude.{◌≡◌, ℕ, ◌+◌, ◌-◌, ◌*◌, ◌/◌, ◌<◌, ◌≤◌, cond, List, ◌++◌, length, take, drop, Ok, Err, nat_lt}
+use Rattle.std.specs.Prelude.{◌≡◌, ℕ, ◌+◌, ◌-◌, ◌*◌, ◌/◌, ◌<◌, cond, List, ◌++◌, length, take, drop, Ok, Err, nat_lt}
 use Rattle.wire.specs.declared.fault.Fault.TheVariants.{Cut}
 use Rattle.wire.specs.Faults.{refusal}
 use Rattle.wire.specs.Pairs.{Bytes}

@@ -1,5 +1,5 @@
 -- Scripts: a block is 2, door, place, name (4); a word of a free place 3, link (2); a round 5; show 6. Assumes nothing.
-use Rattle.std.specs.Prelude.{◌≡◌, ℕ, ◌+◌, ◌/◌, ◌%◌, ◌^◌, ◌<◌, cond, List, [], ◌∷◌, length, Ok, Err, Result, ◌==◌, nat_lt, slice_index}
+use Rattle.std.specs.Prelude.{ℕ, ◌+◌, ◌/◌, ◌%◌, cond, List, [], ◌∷◌, length, Ok, Err, Result, ◌==◌, nat_lt, slice_index}
 use Rattle.net.specs.declared.Block.{Block as Parcel}
 use Rattle.wire.specs.declared.script.Thing.{Thing}
 use Rattle.wire.specs.declared.script.Thing.TheVariants.{Block, Word, Round, Show}

@@ -1,5 +1,5 @@
 -- Foreign tables: the file 4, channels (2), places, then an entry (2) by channel and by place. Assumes nothing.
-use Rattle.std.specs.Prelude.{◌≡◌, ℕ, ◌+◌, ◌-◌, ◌*◌, ◌/◌, ◌%◌, ◌<◌, ◌≤◌, cond, List, [], ◌∷◌, length, drop, Ok, Err, vec_items, Result, ◌==◌, nat_le, slice_index}
+use Rattle.std.specs.Prelude.{◌≡◌, ℕ, ◌+◌, ◌-◌, ◌*◌, ◌/◌, ◌%◌, ◌<◌, ◌≤◌, cond, List, ◌∷◌, length, drop, Ok, Err, vec_items, Result, ◌==◌, nat_le, slice_index}
 use Rattle.net.specs.declared.Entry.{Entry}
 use Rattle.net.specs.declared.Entry.TheVariants.{Here, Link}
 use Rattle.wire.specs.declared.table.Table.{Table}

@@ -3,6 +3,8 @@
 // thing with a fault, of its faults the lowest number wins, and the refusal holds the offset of its first byte. In
 // specs/ stand the definitions, functions on lists of bytes, and the laws of them: an accepted file is the encoding of
 // its value, reading the encoding gives the value back, and a file that is cut is refused where it is cut.
+#![tactic(auto)]
+
 mod cables;
 mod fault;
 mod head;

@@ -1,4 +1,4 @@
-use Rattle.std.proofs.Common.{◌≡◌, get_or, vec_items, sym, refl, ap, ◌∙◌, arith}
+use Rattle.std.proofs.Common.{get_or, vec_items, refl, ◌∙◌, arith}
 use Rattle.graph.specs.Refusal.{no_cable}
 use Rattle.graph.proofs.Links.{froms_none, froms_more, froms_all}
 use Rattle.graph.proofs.begins.begins.Goals as goal

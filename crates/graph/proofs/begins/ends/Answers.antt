@@ -1,4 +1,4 @@
-use Rattle.std.proofs.Common.{◌≡◌, get_or, vec_items, sym, refl, ap, ◌∙◌, arith}
+use Rattle.std.proofs.Common.{get_or, vec_items, refl, ◌∙◌, arith}
 use Rattle.graph.specs.Refusal.{no_cable}
 use Rattle.graph.proofs.Links.{tos_none, tos_more, tos_all}
 use Rattle.graph.proofs.begins.ends.Goals as goal

@@ -1,4 +1,4 @@
-use Rattle.std.proofs.Common.{ℕ, ◌<◌, List, length, get_or, sym, ap, ◌∙◌, subst, arith}
+use Rattle.std.proofs.Common.{ℕ, List, length, sym, ap, ◌∙◌, subst, arith}
 use Rattle.graph.specs.Layers.{Added}
 use Rattle.graph.proofs.Adding.{added_none, added_more}
 use Rattle.graph.proofs.layers.add_links.Goals as goal

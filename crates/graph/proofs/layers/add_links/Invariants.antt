@@ -1,4 +1,3 @@
-use Rattle.std.proofs.Common.{◌≡◌, length}
 use Rattle.graph.specs.Layers.{Added}
 use Rattle.graph.proofs.layers.add_links.Given as goal
 

@@ -1,6 +1,6 @@
-use Rattle.std.proofs.Common.{◌≡◌, ℕ, ◌<◌, List, length, get_or, sym, ap, ◌∙◌, subst, arith}
+use Rattle.std.proofs.Common.{◌≡◌, ℕ, List, length, sym, ap, subst}
 use Rattle.graph.specs.Graph.{graph_by}
-use Rattle.graph.specs.Layers.{Added, Ends, Reached}
+use Rattle.graph.specs.Layers.{Ends, Reached}
 use Rattle.graph.proofs.Layered.{reached_more}
 use Rattle.graph.proofs.layers.layer.Goals as goal
 

@@ -1,4 +1,4 @@
-use Rattle.std.proofs.Common.{◌≡◌, ℕ, ◌<◌, length, get_or, sym, ap, ◌∙◌, subst, arith}
+use Rattle.std.proofs.Common.{length, arith}
 use Rattle.graph.proofs.Layered.{reached_none, started_more}
 use Rattle.graph.proofs.layers.start.Goals as goal
 

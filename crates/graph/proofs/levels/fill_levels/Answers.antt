@@ -1,4 +1,4 @@
-use Rattle.std.proofs.Common.{◌≡◌, ◌-◌, ◌<◌, length, sym, ap, ◌∙◌, arith}
+use Rattle.std.proofs.Common.{length, arith}
 use Rattle.graph.proofs.Rooted.{counted_more, counted_all}
 use Rattle.graph.proofs.levels.fill_levels.Goals as goal
 

@@ -1,4 +1,4 @@
-use Rattle.std.proofs.Common.{◌≡◌, ℕ, ◌<◌, length, get_or, take, replicate, IfOk, vec_items, sym, ◌∙◌, subst, arith}
+use Rattle.std.proofs.Common.{◌≡◌, ℕ, length, take, replicate, IfOk, vec_items, sym, ◌∙◌, subst, arith}
 use Rattle.std.proofs.lemmas.List.{length-take-le, get_or-take, get_or-replicate}
 use Rattle.graph.specs.Layers.{Ends, Levelled}
 use Rattle.graph.proofs.levels.levels_of.Goals as goal

@@ -1,4 +1,4 @@
-use Rattle.std.proofs.Common.{◌≡◌, ◌-◌, ◌<◌, length, sym, ap, ◌∙◌, arith}
+use Rattle.std.proofs.Common.{◌-◌, length, arith}
 use Rattle.graph.proofs.Rooted.{center_found, center_last, center_more}
 use Rattle.graph.proofs.root.center.Goals as goal
 

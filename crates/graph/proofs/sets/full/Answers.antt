@@ -1,4 +1,3 @@
-use Rattle.std.proofs.Common.{◌≡◌, ℕ, ◌<◌, sym, ap, ◌∙◌, subst, arith}
 use Rattle.graph.proofs.Bits.{full_test, ones_of}
 use Rattle.graph.proofs.sets.full.Goals as goal
 

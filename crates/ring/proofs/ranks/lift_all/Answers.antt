@@ -1,5 +1,4 @@
 -- One row more. Assumes nothing.
-use Rattle.std.proofs.Common.{arith}
 use Rattle.ring.proofs.Rounds.{all_step, flag_set, flag_kept}
 use Rattle.ring.proofs.ranks.lift_all.Goals as goal
 use Rattle.ring.proofs.ranks.lift_all.Goals.{then-lift_row, else-lift_row}

@@ -1,7 +1,5 @@
 -- One place more. Assumes nothing.
-use Rattle.std.proofs.Common.{arith}
-use Rattle.ring.specs.Ranks.{InRow}
-use Rattle.ring.proofs.Rounds.{row_step, flag_set, flag_kept, ready_more}
+use Rattle.ring.proofs.Rounds.{row_step, flag_set, flag_kept}
 use Rattle.ring.proofs.ranks.lift_row.Goals as goal
 use Rattle.ring.proofs.ranks.lift_row.Goals.{then-lift, else-lift}
 

@@ -1,5 +1,5 @@
 -- One lowest member more. Assumes nothing.
-use Rattle.std.proofs.Common.{◌≡◌, ℕ, ◌+◌, ◌<◌, ◌≤◌, get_or, sym, subst, arith}
+use Rattle.std.proofs.Common.{◌+◌, sym, subst, arith}
 use Rattle.ring.specs.declared.shortest.Best.{Best}
 use Rattle.ring.specs.Fewest.{Fewest}
 use Rattle.ring.specs.Layers.{Feeds}

@@ -1,5 +1,5 @@
 -- None found means none; what is found is the smallest ring. Assumes nothing.
-use Rattle.std.proofs.Common.{◌≡◌, ℕ, ◌<◌, ◌≤◌, get_or, vec_items, sym, subst, arith}
+use Rattle.std.proofs.Common.{◌≡◌, ℕ, ◌≤◌, get_or, vec_items, sym, subst, arith}
 use Rattle.ring.specs.Layers.{Feeds, Near}
 use Rattle.ring.proofs.Least.{no_ring, members_are, smallest_is}
 use Rattle.ring.proofs.shortest.smallest_in.Goals as goal

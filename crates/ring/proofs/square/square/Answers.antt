@@ -1,5 +1,5 @@
 -- The square begins empty, and ends as it was marked. Assumes nothing.
-use Rattle.std.proofs.Common.{◌≡◌, ℕ, ◌*◌, Bool, false, List, length, get_or, replicate, sym, ap, ◌∙◌, subst, arith}
+use Rattle.std.proofs.Common.{◌≡◌, ◌*◌, Bool, false, List, length, get_or, replicate, sym, ap, ◌∙◌, subst, arith}
 use Rattle.std.proofs.lemmas.List.{with_items_is}
 use Rattle.ring.specs.Table.{Agrees}
 use Rattle.ring.proofs.Filled.{none_marked, all_same}

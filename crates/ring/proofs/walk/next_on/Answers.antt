@@ -1,5 +1,5 @@
 -- The loop never runs out: some channel is one nearer. Assumes nothing.
-use Rattle.std.proofs.Common.{◌<◌, ◌≤◌, get_or, arith}
+use Rattle.std.proofs.Common.{◌<◌, get_or, arith}
 use Rattle.ring.specs.Layers.{Feeds}
 use Rattle.ring.proofs.Falling.{some_nearer}
 use Rattle.ring.proofs.walk.next_on.Goals as goal

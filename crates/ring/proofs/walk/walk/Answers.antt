@@ -1,5 +1,5 @@
 -- One member more, and the last one. Assumes nothing.
-use Rattle.std.proofs.Common.{◌≡◌, ◌<◌, ◌≤◌, get_or, vec_items, arith}
+use Rattle.std.proofs.Common.{get_or, vec_items, arith}
 use Rattle.ring.specs.Layers.{Feeds}
 use Rattle.ring.proofs.Falling.{walk_more, walk_last}
 use Rattle.ring.proofs.walk.walk.Goals as goal

@@ -1,4 +1,4 @@
-use Rattle.std.proofs.Common.{◌≡◌, ◌<◌, [], length, vec_items, deque_items, sym, refl, ap, ◌∙◌, arith}
+use Rattle.std.proofs.Common.{◌<◌, [], length, vec_items, deque_items, sym, refl, ap, ◌∙◌, arith}
 use Rattle.net.specs.Heads.{head_of, tail_of}
 use Rattle.round.proofs.Places.{mapped_read, mapped_write}
 use Rattle.round.proofs.channel.pop_door.Goals as goal

@@ -1,4 +1,4 @@
-use Rattle.std.proofs.Common.{◌≡◌, ◌<◌, [], length, vec_items, sym, refl, ap, ◌∙◌, arith}
+use Rattle.std.proofs.Common.{◌<◌, [], length, vec_items, sym, refl, ap, ◌∙◌, arith}
 use Rattle.net.specs.Heads.{head_of, tail_of}
 use Rattle.store.specs.Store.{items}
 use Rattle.round.proofs.Places.{mapped_read, mapped_write}

@@ -1,4 +1,4 @@
-use Rattle.std.proofs.Common.{◌≡◌, ℕ, ◌+◌, ◌<◌, map, length, get_or, vec_items, refl, subst, arith}
+use Rattle.std.proofs.Common.{◌+◌, ◌<◌, length, vec_items, refl, arith}
 use Rattle.store.specs.Credit.{credit_free, credit_all}
 use Rattle.round.proofs.Places.{mapped_read, mapped_write, mapped_same}
 use Rattle.round.proofs.credits.gain_at.Goals as goal

@@ -1,4 +1,4 @@
-use Rattle.std.proofs.Common.{◌≡◌, pred, ◌<◌, length, vec_items, refl, arith}
+use Rattle.std.proofs.Common.{pred, ◌<◌, length, vec_items, refl, arith}
 use Rattle.store.specs.Credit.{credit_free, credit_all}
 use Rattle.round.proofs.Places.{mapped_write, mapped_same}
 use Rattle.round.proofs.credits.spend_at.Goals as goal

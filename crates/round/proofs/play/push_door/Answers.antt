@@ -1,4 +1,4 @@
-use Rattle.std.proofs.Common.{◌≡◌, ◌<◌, List, [], ◌∷◌, ◌++◌, length, vec_items, deque_items, refl, arith}
+use Rattle.std.proofs.Common.{◌<◌, List, [], ◌∷◌, ◌++◌, length, vec_items, deque_items, refl, arith}
 use Rattle.net.specs.declared.Block.{Block}
 use Rattle.round.proofs.Places.{mapped_perhaps}
 use Rattle.round.proofs.play.push_door.Goals as goal

@@ -1,4 +1,4 @@
-use Rattle.std.proofs.Common.{◌≡◌, ◌+◌, ◌-◌, ◌*◌, ◌<◌, length, get_or, sym, refl, ap, ◌∙◌, arith}
+use Rattle.std.proofs.Common.{◌+◌, get_or, arith}
 use Rattle.graph.specs.Graph.{graph_by}
 use Rattle.tree.specs.Planted.{up_by}
 use Rattle.table.proofs.Parts.{row_in}

@@ -1,4 +1,4 @@
-use Rattle.std.proofs.Common.{◌≡◌, ℕ, ◌+◌, sym, ap, subst}
+use Rattle.std.proofs.Common.{ℕ, ◌+◌, sym, subst}
 use Rattle.net.specs.Layout.{net_of}
 use Rattle.net.specs.Net.{Leads}
 use Rattle.machine.proofs.Road.{at_place}

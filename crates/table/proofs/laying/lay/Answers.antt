@@ -1,4 +1,4 @@
-use Rattle.std.proofs.Common.{◌≡◌, sym, refl, ap, ◌∙◌, subst, arith}
+use Rattle.std.proofs.Common.{refl, arith}
 use Rattle.table.proofs.Whole.{linked_in, near_in, laid_out}
 use Rattle.table.proofs.laying.lay.Goals as goal
 

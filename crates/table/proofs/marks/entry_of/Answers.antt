@@ -1,4 +1,3 @@
-use Rattle.std.proofs.Common.{arith}
 use Rattle.table.proofs.Marking.{cell_in, entry_is}
 use Rattle.table.proofs.marks.entry_of.Goals as goal
 

@@ -1,4 +1,4 @@
-use Rattle.std.proofs.Common.{◌≡◌, ◌<◌, length, sym, ap, ◌∙◌, arith}
+use Rattle.std.proofs.Common.{sym, ◌∙◌, arith}
 use Rattle.graph.specs.Graph.{graph_by}
 use Rattle.tree.specs.Planted.{up_by}
 use Rattle.table.proofs.Follow.{nearer}

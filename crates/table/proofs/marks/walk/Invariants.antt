@@ -1,4 +1,3 @@
-use Rattle.std.proofs.Common.{ℕ, ◌<◌}
 use Rattle.roads.specs.Roads.{shortest}
 use Rattle.graph.specs.Graph.{graph_by}
 use Rattle.tree.specs.Legal.{legal, stands}

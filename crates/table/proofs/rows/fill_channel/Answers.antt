@@ -1,4 +1,4 @@
-use Rattle.std.proofs.Common.{◌≡◌, ◌+◌, ◌-◌, ◌*◌, length, sym, refl, ap, ◌∙◌, arith}
+use Rattle.std.proofs.Common.{◌+◌, length, arith}
 use Rattle.table.proofs.Parts.{row_in}
 use Rattle.table.proofs.Filling.{row_of}
 use Rattle.table.proofs.rows.fill_channel.Goals as goal

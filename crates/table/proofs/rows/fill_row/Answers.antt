@@ -1,4 +1,4 @@
-use Rattle.std.proofs.Common.{◌≡◌, ℕ, Bool, cond, get_or, sym, refl, ap, ◌∙◌, arith}
+use Rattle.std.proofs.Common.{ℕ, Bool, cond, get_or, ap, ◌∙◌, arith}
 use Rattle.net.specs.declared.Entry.TheVariants.{Here}
 use Rattle.graph.specs.Sets.{has}
 use Rattle.table.proofs.Filling.{filled_more}

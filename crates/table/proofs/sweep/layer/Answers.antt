@@ -1,4 +1,4 @@
-use Rattle.std.proofs.Common.{◌≡◌, ℕ, ◌+◌, ◌<◌, List, length, sym, ap, ◌∙◌, subst, arith}
+use Rattle.std.proofs.Common.{◌≡◌, ℕ, List, length, sym, ap, ◌∙◌, subst, arith}
 use Rattle.graph.specs.Graph.{graph_by}
 use Rattle.tree.specs.Planted.{up_by}
 use Rattle.table.specs.Cells.{Layer, Held}

@@ -1,4 +1,4 @@
-use Rattle.std.proofs.Common.{◌≡◌, ◌<◌, sym, ap, ◌∙◌, arith}
+use Rattle.std.proofs.Common.{◌≡◌, arith}
 use Rattle.table.specs.Cells.{state_of}
 use Rattle.table.proofs.Sweeping.{started_more, state_small}
 use Rattle.table.proofs.sweep.start.Goals as goal

@@ -1,4 +1,4 @@
-use Rattle.std.proofs.Common.{◌≡◌, ℕ, List, [], ◌∷◌, ◌++◌, replicate, ap, ◌∙◌}
+use Rattle.std.proofs.Common.{ℕ, List, [], ◌∷◌, ◌++◌, replicate, ap, ◌∙◌}
 use Rattle.std.proofs.lemmas.List.{replicate_more, append_assoc}
 use Rattle.table.proofs.tables.with_doors.Goals as goal
 

@@ -1,4 +1,4 @@
-use Rattle.std.proofs.Common.{◌≡◌, length, vec_items, refl, ◌∙◌, arith}
+use Rattle.std.proofs.Common.{length, vec_items, arith}
 use Rattle.graph.specs.Graph.{graph_by}
 use Rattle.tree.specs.Legal.{goes_up}
 use Rattle.tree.specs.Planted.{level_by}

@@ -1,4 +1,4 @@
-use Rattle.std.proofs.Common.{◌≡◌, ℕ, ◌+◌, ◌<◌, sym, refl, subst, arith}
+use Rattle.std.proofs.Common.{◌<◌, sym, arith}
 use Rattle.net.specs.Layout.{net_of}
 use Rattle.waits.proofs.Feeding.{counted_here, counted_over, count_small}
 use Rattle.waits.proofs.Plans.{plan_link}

@@ -1,4 +1,4 @@
-use Rattle.std.proofs.Common.{◌≡◌, ℕ, length, ◌∙◌, arith}
+use Rattle.std.proofs.Common.{◌≡◌, length, ◌∙◌, arith}
 use Rattle.waits.proofs.Working.{lent_back}
 use Rattle.waits.proofs.make.feeder_counts.Goals as goal
 

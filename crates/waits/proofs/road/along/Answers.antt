@@ -1,8 +1,7 @@
-use Rattle.std.proofs.Common.{◌≡◌, ℕ, ◌+◌, ◌*◌, ◌^◌, ◌<◌, ◌≤◌, get_or, sym, subst, arith}
+use Rattle.std.proofs.Common.{ℕ, ◌+◌, ◌<◌, get_or, sym, subst, arith}
 use Rattle.net.specs.declared.Entry.TheVariants.{Here, Link}
 use Rattle.net.specs.Layout.{net_of}
 use Rattle.net.specs.Net.{channels}
-use Rattle.waits.specs.Working.{longest}
 use Rattle.waits.proofs.Fuel.{higher_falls, higher_most, rest_here}
 use Rattle.waits.proofs.Plans.{plan_good, plan_link, told}
 use Rattle.waits.proofs.Roads.{Walked, walk_step}

@@ -1,12 +1,9 @@
-use Rattle.std.proofs.Common.{◌≡◌, ℕ, ◌+◌, ◌*◌, ◌<◌, ◌≤◌, max, length, get_or, sym, refl, ap, ◌∙◌, subst, arith, rules}
-use native.Mathlib.Nat.{max-le}
+use Rattle.std.proofs.Common.{◌≡◌, ℕ, ◌*◌, ◌<◌, max, length, get_or, sym, refl, ap, ◌∙◌, subst, arith}
 use Rattle.net.specs.Layout.{net_of}
 use Rattle.net.specs.declared.Entry.TheVariants.{Here, Link}
 use Rattle.std.proofs.lemmas.List.{get_or-set_same}
-use Rattle.machine.specs.Waits.{feeders, worst, patience}
-use Rattle.net.specs.Net.{channels}
+use Rattle.machine.specs.Waits.{worst, patience}
 use Rattle.waits.specs.Laws.{share}
-use Rattle.waits.specs.Working.{longest}
 use Rattle.waits.proofs.Fuel.{higher, higher_falls, patience_law}
 use Rattle.waits.proofs.Plans.{plan_good, plan_link, told}
 use Rattle.waits.proofs.Working.{patience_over, share_over, patience_some, partly_set, stays_set, worst_here, share_step}

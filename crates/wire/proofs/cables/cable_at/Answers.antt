@@ -1,5 +1,5 @@
 -- A cable of two bytes that are there, or the cut. Assumes nothing.
-use Rattle.std.proofs.Common.{◌≡◌, sym, ap, ◌∙◌, arith}
+use Rattle.std.proofs.Common.{sym, ap, ◌∙◌, arith}
 use Rattle.wire.specs.Cables.{cable_by}
 use Rattle.wire.specs.Pairs.{placed}
 use Rattle.wire.proofs.Rows.{pair_cut, pair_whole}

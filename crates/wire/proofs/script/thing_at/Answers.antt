@@ -1,5 +1,5 @@
 -- What each kind of thing gives, and that reading moves on. Assumes nothing.
-use Rattle.std.proofs.Common.{◌≡◌, ℕ, ◌+◌, Ok, Err, sym, refl, ap, ◌∙◌, arith}
+use Rattle.std.proofs.Common.{ℕ, ◌+◌, Ok, sym, refl, ap, ◌∙◌, arith}
 use Rattle.net.specs.declared.Block.{Block as Parcel}
 use Rattle.wire.specs.declared.script.Thing.TheVariants.{Block, Word}
 use Rattle.wire.proofs.Things.{no_thing, whole_block, cut_block, whole_word, cut_word, a_round, a_show, unknown}

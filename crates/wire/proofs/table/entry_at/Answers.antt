@@ -1,5 +1,5 @@
 -- An entry of two bytes that are there, or the cut. Assumes nothing.
-use Rattle.std.proofs.Common.{◌≡◌, sym, ap, ◌∙◌, arith}
+use Rattle.std.proofs.Common.{sym, ap, ◌∙◌, arith}
 use Rattle.wire.specs.Tables.{entry_by_bytes, entry_of}
 use Rattle.wire.specs.Pairs.{placed}
 use Rattle.wire.proofs.Rows.{pair_cut, pair_whole}

@@ -1,5 +1,5 @@
-use Rattle.std.proofs.Common.{◌≡◌, ℕ, ◌≤◌, List, length, Ok, vec_items, sym, ap, ◌∙◌, subst, arith}
-use Rattle.graph.specs.Layers.{Linked, Joins}
+use Rattle.std.proofs.Common.{◌≡◌, ℕ, ◌≤◌, List, length, Ok, vec_items, ◌∙◌, subst, arith}
+use Rattle.graph.specs.Layers.{Joins}
 use Rattle.graph.proofs.Links.{linked_of}
 use Rattle.graph.proofs.cabling.Cabling.new.Goals as goal
 

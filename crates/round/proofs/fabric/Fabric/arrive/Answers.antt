@@ -1,5 +1,4 @@
-use Rattle.std.proofs.Common.{◌≡◌, ℕ, ◌<◌, List, [], ◌++◌, map, length, get_or, set, vec_items, deque_items, sym, refl, ap, ◌∙◌, arith}
-use Rattle.std.proofs.lemmas.List.{length-map}
+use Rattle.std.proofs.Common.{◌≡◌, ℕ, List, [], ◌++◌, map, length, get_or, set, vec_items, deque_items, refl, ap, ◌∙◌, arith}
 use Rattle.net.specs.Layout.{net_of}
 use Rattle.store.specs.Credit.{credit_free}
 use Rattle.store.specs.Store.{items}

@@ -1,4 +1,4 @@
-use Rattle.std.proofs.Common.{◌≡◌, ℕ, List, map, get_or, vec_items, deque_items, ap, ◌∙◌}
+use Rattle.std.proofs.Common.{ℕ, List, map, get_or, vec_items, deque_items, ap, ◌∙◌}
 use Rattle.std.proofs.lemmas.List.{get_or-replicate}
 use Rattle.net.specs.Layout.{net_of}
 use Rattle.store.specs.Credit.{credit_free}

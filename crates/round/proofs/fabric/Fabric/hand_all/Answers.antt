@@ -1,4 +1,4 @@
-use Rattle.std.proofs.Common.{◌≡◌, ◌+◌, sym, refl, ap, ◌∙◌, subst, arith}
+use Rattle.std.proofs.Common.{sym, refl, ap, ◌∙◌, subst, arith}
 use Rattle.net.proofs.Outside.{plan_good}
 use Rattle.net.specs.Layout.{net_of}
 use Rattle.machine.specs.Round.{State, all_handed, handed_over}

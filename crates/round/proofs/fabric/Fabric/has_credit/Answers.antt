@@ -1,4 +1,4 @@
-use Rattle.std.proofs.Common.{◌≡◌, ℕ, ◌<◌, ltb, length, vec_items, sym, ap, ◌∙◌, arith}
+use Rattle.std.proofs.Common.{ℕ, ◌<◌, ltb, length, vec_items, sym, ap, ◌∙◌, arith}
 use Rattle.store.specs.Credit.{credit_free}
 use Rattle.round.proofs.Places.{mapped_read}
 use Rattle.round.proofs.fabric.Fabric.has_credit.Goals as goal

@@ -1,8 +1,8 @@
 use Rattle.std.proofs.Common.{◌+◌, sym, subst, arith}
 use Rattle.net.proofs.Outside.{plan_good}
 use Rattle.net.specs.Layout.{net_of}
-use Rattle.machine.specs.Round.{State, counted}
-use Rattle.round.specs.Fabric.{Steady, state_of}
+use Rattle.machine.specs.Round.{State}
+use Rattle.round.specs.Fabric.{Steady}
 use Rattle.round.proofs.Stays.{steady_handed}
 use Rattle.round.proofs.fabric.Fabric.round.Goals as goal
 

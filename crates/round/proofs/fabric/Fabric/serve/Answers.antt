@@ -1,8 +1,8 @@
-use Rattle.std.proofs.Common.{◌≡◌, ◌+◌, ◌<◌, [], length, get_or, sym, ap, ◌∙◌, arith}
+use Rattle.std.proofs.Common.{◌+◌, length, get_or, sym, ap, ◌∙◌, arith}
 use Rattle.std.proofs.lemmas.Bool.{ltb-true}
 use Rattle.net.specs.Layout.{net_of}
 use Rattle.machine.proofs.Steps.{look_finds, wants_leading}
-use Rattle.round.specs.Fabric.{frees, state_of, queues}
+use Rattle.round.specs.Fabric.{frees, state_of}
 use Rattle.round.proofs.fabric.Fabric.serve.Goals as goal
 
 pub send-requires : goal.send-requires

@@ -1,9 +1,8 @@
-use Rattle.std.proofs.Common.{◌≡◌, ℕ, ◌+◌, ◌<◌, ◌≤◌, List, [], ◌++◌, map, length, get_or, Some, vec_items, vec_len, deque_items, sym, refl, ap, ◌∙◌, arith}
-use Rattle.std.proofs.lemmas.List.{length-map}
+use Rattle.std.proofs.Common.{◌≡◌, ℕ, ◌<◌, List, [], ◌++◌, map, length, get_or, vec_items, deque_items, sym, refl, ap, ◌∙◌, arith}
 use Rattle.net.specs.declared.Block.{Block}
 use Rattle.net.specs.Heads.{head_of}
 use Rattle.net.specs.Layout.{net_of}
-use Rattle.store.specs.Credit.{credit_free, credit_all}
+use Rattle.store.specs.Credit.{credit_free}
 use Rattle.store.specs.Store.{items}
 use Rattle.round.specs.Fabric.{frees, listed}
 use Rattle.round.proofs.Places.{front_read}

@@ -3,7 +3,7 @@ use Rattle.net.proofs.Outside.{plan_good}
 use Rattle.machine.specs.Round.{Enter}
 use Rattle.round.specs.Fabric.{state_of}
 use Rattle.round.specs.Running.{net_in, state_in}
-use Rattle.round.proofs.Kept.{kept, settled, fitted_in, perhaps, this_enters}
+use Rattle.round.proofs.Kept.{kept, settled, perhaps, this_enters}
 use Rattle.round.proofs.running.Running.let_in.Goals as goal
 
 pub returns-in-Some : goal.returns-in-Some

@@ -1,6 +1,5 @@
 use Rattle.std.proofs.Common.{sym}
 use Rattle.store.proofs.Fits.{items_count}
-use Rattle.store.specs.Store.{items}
 use Rattle.store.proofs.store.Store.len.Goals as goal
 
 pub returns : goal.returns
