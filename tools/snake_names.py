@@ -34,8 +34,8 @@ BY_HAND = {
     "ringText": "text_of_ring",
     "verdictText": "text_of_verdict",
     # a definition has the name of a lemma about it
-    "is-here": "is_here-true",
-    "is-to": "is_to-true",
+    "is-here": "is_here_true",
+    "is-to": "is_to_true",
     "by-entry": "each_entry",
     "comes-from": "comes_here",
 }

@@ -1,6 +1,6 @@
 -- Walking down the distances gives the way back that is first in order. Assumes nothing.
 use Rattle.std.proofs.Common.{◌≡◌, ℕ, ◌+◌, ◌-◌, ◌<◌, ◌≤◌, List, [], ◌∷◌, ◌++◌, length, get_or, sym, ap, ◌∙◌, subst, inl, inr, ⊎_elim, append_assoc, arith}
-use Rattle.std.specs.List.{AllByRecursion as All}
+use Rattle.std.specs.List.{AllByRecursion}
 use Rattle.std.proofs.ByRecursion.{All-weaker}
 use Rattle.std.proofs.lemmas.Bool.{cases_lt}
 use Rattle.ring.specs.Ring.{Along, NotAfter}
@@ -38,7 +38,7 @@ module _ (H : ℕ → ℕ → Type 0) (c k : ℕ) (A : List ℕ) (n : Near H c k
         first = λ ds a l s. tt;
       }
 
-  not_in : (x : ℕ) (es : List ℕ) → All (λ e. get_or A e 0 < get_or A x 0) es → All (λ e. x ≡ e → ⊥) es
+  not_in : (x : ℕ) (es : List ℕ) → AllByRecursion (λ e. get_or A e 0 < get_or A x 0) es → AllByRecursion (λ e. x ≡ e → ⊥) es
   not_in x es l =
       All-weaker (λ (e : ℕ). get_or A e 0 < get_or A x 0) (λ (e : ℕ). x ≡ e → ⊥)
       (λ e h q. let p : get_or A x 0 ≡ get_or A e 0 = ap (λ (i : ℕ). get_or A i 0) q in omega arith) es l
@@ -48,7 +48,7 @@ module _ (H : ℕ → ℕ → Type 0) (c k : ℕ) (A : List ℕ) (n : Near H c k
       let r = o.nearer in
       let s = l.size in
       let b = n.some x (omega arith) in
-      let falls : All (λ d. get_or A d 0 < get_or A x 0) (e ∷ es) = (omega arith, All-weaker (λ (d : ℕ). get_or A d 0 < get_or A e 0) (λ (d : ℕ). get_or A d 0 < get_or A x 0) (λ d h. omega arith) es l.falls) in
+      let falls : AllByRecursion (λ d. get_or A d 0 < get_or A x 0) (e ∷ es) = (omega arith, All-weaker (λ (d : ℕ). get_or A d 0 < get_or A e 0) (λ (d : ℕ). get_or A d 0 < get_or A x 0) (λ d h. omega arith) es l.falls) in
       record {
         along = (o.hands, l.along);
         size = omega arith;
@@ -59,10 +59,10 @@ module _ (H : ℕ → ℕ → Type 0) (c k : ℕ) (A : List ℕ) (n : Near H c k
         first = λ ds a h z. first b.from ds a h z;
       }
     where
-      same : (d : ℕ) (ds : List ℕ) → d ≡ e → Along H d ds c → All (λ f. c ≤ f) ds → length ds ≡ length es → NotAfter es ds
+      same : (d : ℕ) (ds : List ℕ) → d ≡ e → Along H d ds c → AllByRecursion (λ f. c ≤ f) ds → length ds ≡ length es → NotAfter es ds
       same d ds q a h z = l.first ds (subst (λ (i : ℕ). Along H i ds c) q a) h z
 
-      first : c ≤ x → (ds : List ℕ) → Along H x ds c → All (λ f. c ≤ f) ds → length ds ≡ length (e ∷ es) → NotAfter (e ∷ es) ds
+      first : c ≤ x → (ds : List ℕ) → Along H x ds c → AllByRecursion (λ f. c ≤ f) ds → length ds ≡ length (e ∷ es) → NotAfter (e ∷ es) ds
       first f [] a h z = absurd (omega arith)
       first f (d ∷ ds) a h z =
           let r = o.nearer in

@@ -1,6 +1,6 @@
 -- The search over all lowest members finds the smallest ring, or that there is none. Assumes nothing.
 use Rattle.std.proofs.Common.{◌≡◌, ℕ, ◌+◌, ◌<◌, ◌≤◌, ◌⊎◌, List, [], ◌∷◌, length, get_or, sym, refl, ap, ◌∙◌, subst, inl, inr, ⊎_elim, arith}
-use Rattle.std.specs.List.{AllByRecursion as All}
+use Rattle.std.specs.List.{AllByRecursion}
 use Rattle.std.proofs.lemmas.Bool.{cases_eq, cases_lt, cases_order}
 use Rattle.ring.specs.Ring.{Along, Ring, NoRing, FromLowest, NotAfter, Smallest}
 use Rattle.ring.specs.Layers.{Back, Near}
@@ -80,7 +80,7 @@ module _ (H : ℕ → ℕ → Type 0) (n : ℕ) where
         let s : length es + 1 ≡ members = l.size ∙ (ap (λ (i : ℕ). get_or A i 0) r.0 ∙ q) in
         record {
           ring = (subst (λ (i : ℕ). Along H x es i) (sym r.0) l.along, l.differ);
-          lowest = subst (λ (i : ℕ). All (λ (e : ℕ). i ≤ e) es) (sym r.0) l.high;
+          lowest = subst (λ (i : ℕ). AllByRecursion (λ (e : ℕ). i ≤ e) es) (sym r.0) l.high;
           fewest = fewest s;
           first = first s;
         }
@@ -98,7 +98,7 @@ module _ (H : ℕ → ℕ → Type 0) (n : ℕ) where
             let t : length ys ≡ length es = omega arith in
             let p : y ≡ low → (x < y) ⊎ ((x ≡ y) × NotAfter es ys) = λ u.
             let v : x ≡ y = omega arith in
-            inr (v, l.first ys (subst (λ (i : ℕ). Along H i ys low) (sym v) (subst (λ (i : ℕ). Along H y ys i) u d.0)) (subst (λ (i : ℕ). All (λ (e : ℕ). i ≤ e) ys) u w) t) in
+            inr (v, l.first ys (subst (λ (i : ℕ). Along H i ys low) (sym v) (subst (λ (i : ℕ). Along H y ys i) u d.0)) (subst (λ (i : ℕ). AllByRecursion (λ (e : ℕ). i ≤ e) ys) u w) t) in
             let lower : y < low → (x < y) ⊎ ((x ≡ y) × NotAfter es ys) = λ g. let o = (f.found h).lower y (length ys + 1) g b in absurd (omega arith) in
             let higher : low < y → (x < y) ⊎ ((x ≡ y) × NotAfter es ys) = λ g. let v : x < y = omega arith in inl v in
             ⊎_elim p (λ k. ⊎_elim lower higher k) (cases_order y low)

@@ -1,6 +1,6 @@
 -- Layer by layer the numbers are the distances back: one mark, the marks at one channel, a whole layer. Assumes nothing.
 use Rattle.std.proofs.Common.{◌≡◌, ℕ, ◌+◌, ◌<◌, ◌≤◌, Bool, true, false, cond, ◌&&◌, eqb, ◌⊎◌, List, [], ◌∷◌, length, get_or, set, sym, refl, ap, ◌∙◌, subst, inl, inr, ⊎_elim, arith, length-set}
-use Rattle.std.specs.List.{AllByRecursion as All}
+use Rattle.std.specs.List.{AllByRecursion}
 use Rattle.std.proofs.lemmas.List.{get_or-set_same, get_or-set_other, set-get_or}
 use Rattle.std.proofs.lemmas.Bool.{cases_eq, cases_lt, cases_Bool, and_parts, and_cases, eqb-true, eqb-false, cond-true, cond-false, both_ways}
 use Rattle.ring.specs.Ring.{Along}
@@ -30,7 +30,7 @@ module _ (H : ℕ → ℕ → Type 0) (c : ℕ) where
   pub back_first : (x k : ℕ) → Back H c x (k + 1) → 0 < k → (e : ℕ) × H x e × Back H c e k
   back_first x k b h = go b.over b.along b.size b.high
     where
-      go : (es : List ℕ) → Along H x es c → length es + 1 ≡ k + 1 → All (λ e. c ≤ e) es → (e : ℕ) × H x e × Back H c e k
+      go : (es : List ℕ) → Along H x es c → length es + 1 ≡ k + 1 → AllByRecursion (λ e. c ≤ e) es → (e : ℕ) × H x e × Back H c e k
       go [] a s l = absurd (omega arith)
       go (e ∷ es) a s l = (e, a.0, record { over = es; along = a.1; size = omega arith; from = l.0; high = l.1 })
 

@@ -1,6 +1,6 @@
 -- A ring can be written from its lowest member on, with as many members. Assumes nothing.
 use Rattle.std.proofs.Common.{◌≡◌, ℕ, ◌+◌, ◌<◌, ◌≤◌, ◌⊎◌, List, [], ◌∷◌, ◌++◌, length, sym, refl, ap, subst, inl, inr, arith, length-append}
-use Rattle.std.specs.List.{AllByRecursion as All}
+use Rattle.std.specs.List.{AllByRecursion}
 use Rattle.std.proofs.ByRecursion.{All-weaker, All-append}
 use Rattle.std.proofs.lemmas.Bool.{cases_lt}
 use Rattle.ring.specs.Ring.{Along}
@@ -14,32 +14,32 @@ record Low (x : ℕ) (es : List ℕ) : Type 0 where
   ws : List ℕ
   is : es ≡ us ++ (m ∷ ws)
   less : m < x
-  before : All (λ e. m ≤ e) us
-  behind : All (λ e. m ≤ e) ws
+  before : AllByRecursion (λ e. m ≤ e) us
+  behind : AllByRecursion (λ e. m ≤ e) ws
 
-weaker : (a b : ℕ) (es : List ℕ) → a ≤ b → All (λ e. b ≤ e) es → All (λ e. a ≤ e) es
+weaker : (a b : ℕ) (es : List ℕ) → a ≤ b → AllByRecursion (λ e. b ≤ e) es → AllByRecursion (λ e. a ≤ e) es
 weaker a b es h l = All-weaker (λ (e : ℕ). b ≤ e) (λ (e : ℕ). a ≤ e) (λ e k. omega arith) es l
 
-low : (x : ℕ) (es : List ℕ) → All (λ e. x ≤ e) es ⊎ Low x es
+low : (x : ℕ) (es : List ℕ) → AllByRecursion (λ e. x ≤ e) es ⊎ Low x es
 low x [] = inl tt
 low x (e ∷ es) = go (low x es)
   where
-    at : e < x → All (λ k. e ≤ k) es → Low x (e ∷ es)
+    at : e < x → AllByRecursion (λ k. e ≤ k) es → Low x (e ∷ es)
     at h l = record { us = []; m = e; ws = es; is = refl; less = h; before = tt; behind = l }
 
-    further : (l : Low x es) → (e < l.m) ⊎ (l.m ≤ e) → All (λ e. x ≤ e) (e ∷ es) ⊎ Low x (e ∷ es)
+    further : (l : Low x es) → (e < l.m) ⊎ (l.m ≤ e) → AllByRecursion (λ e. x ≤ e) (e ∷ es) ⊎ Low x (e ∷ es)
     further l (inl h) =
         let k = l.less in
         let us = weaker e l.m l.us (omega arith) l.before in
         let ws = weaker e l.m l.ws (omega arith) l.behind in
-        inr (at (omega arith) (subst (λ (xs : List ℕ). All (λ (k : ℕ). e ≤ k) xs) (sym l.is) (All-append (λ (k : ℕ). e ≤ k) l.us (l.m ∷ l.ws) us (omega arith, ws))))
+        inr (at (omega arith) (subst (λ (xs : List ℕ). AllByRecursion (λ (k : ℕ). e ≤ k) xs) (sym l.is) (All-append (λ (k : ℕ). e ≤ k) l.us (l.m ∷ l.ws) us (omega arith, ws))))
     further l (inr h) =
         inr record { us = e ∷ l.us; m = l.m; ws = l.ws; is = ap (λ (xs : List ℕ). e ∷ xs) l.is; less = l.less; before = (h, l.before); behind = l.behind }
 
-    go : All (λ k. x ≤ k) es ⊎ Low x es → All (λ e. x ≤ e) (e ∷ es) ⊎ Low x (e ∷ es)
+    go : AllByRecursion (λ k. x ≤ k) es ⊎ Low x es → AllByRecursion (λ e. x ≤ e) (e ∷ es) ⊎ Low x (e ∷ es)
     go (inl l) = here (cases_lt e x)
       where
-        here : (e < x) ⊎ (x ≤ e) → All (λ e. x ≤ e) (e ∷ es) ⊎ Low x (e ∷ es)
+        here : (e < x) ⊎ (x ≤ e) → AllByRecursion (λ e. x ≤ e) (e ∷ es) ⊎ Low x (e ∷ es)
         here (inl h) = inr (at h (weaker e x es (omega arith) l))
         here (inr h) = inl (h, l)
     go (inr l) = further l (cases_lt e l.m)
@@ -48,7 +48,7 @@ module _ (H : ℕ → ℕ → Type 0) where
   pub turned : (x : ℕ) (es : List ℕ) → Along H x es x → (m : ℕ) × Back H m m (length es + 1)
   turned x es a = go (low x es)
     where
-      go : All (λ e. x ≤ e) es ⊎ Low x es → (m : ℕ) × Back H m m (length es + 1)
+      go : AllByRecursion (λ e. x ≤ e) es ⊎ Low x es → (m : ℕ) × Back H m m (length es + 1)
       go (inl l) = (x, record { over = es; along = a; size = refl; from = omega arith; high = l })
       go (inr l) =
           let s : Along H x l.us l.m × Along H l.m l.ws x = along_split H x l.us l.m l.ws x (subst (λ (xs : List ℕ). Along H x xs x) l.is a) in

@@ -1,6 +1,6 @@
 -- Walking down the distances: the next channel, and the way back that is first in order. Assumes nothing.
 use Rattle.std.specs.Prelude.{◌≡◌, ℕ, ◌+◌, ◌<◌, ◌≤◌, List, [], ◌∷◌, length, slice_index, slice_index_or}
-use Rattle.std.specs.List.{AllByRecursion as All}
+use Rattle.std.specs.List.{AllByRecursion}
 use Rattle.ring.specs.Ring.{Along, Differ, NotAfter}
 
 -- e is the lowest channel to which x hands blocks and that is one nearer
@@ -15,10 +15,10 @@ pub record Lowest (H : ℕ → ℕ → Type 0) (c : ℕ) (away : List ℕ) (x : 
   pub along : Along H x es c
   pub size : length es + 1 ≡ slice_index away x
   pub from : c ≤ x
-  pub high : All (λ e. c ≤ e) es
-  pub falls : All (λ e. slice_index away e < slice_index away x) es
+  pub high : AllByRecursion (λ e. c ≤ e) es
+  pub falls : AllByRecursion (λ e. slice_index away e < slice_index away x) es
   pub differ : Differ (x ∷ es)
-  pub first : (ds : List ℕ) → Along H x ds c → All (λ e. c ≤ e) ds → length ds ≡ length es → NotAfter es ds
+  pub first : (ds : List ℕ) → Along H x ds c → AllByRecursion (λ e. c ≤ e) ds → length ds ≡ length es → NotAfter es ds
 
 -- such a way from c itself
 abbrev pub LowestRing : (ℕ → ℕ → Type 0) → ℕ → List ℕ → List ℕ → Type 0

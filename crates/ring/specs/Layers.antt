@@ -1,6 +1,6 @@
 -- Distances back to a channel over channels not below it, as the layers find them. Assumes nothing.
 use Rattle.std.specs.Prelude.{◌≡◌, ℕ, ◌+◌, ◌*◌, ◌<◌, ◌≤◌, Bool, true, false, ◌⊎◌, List, length, slice_index, slice_index_or}
-use Rattle.std.specs.List.{AllByRecursion as All}
+use Rattle.std.specs.List.{AllByRecursion}
 use Rattle.ring.specs.Ring.{Along}
 
 -- what a square of n rows says: y hands blocks to x if there is a mark in row x at y
@@ -13,7 +13,7 @@ pub record Back (H : ℕ → ℕ → Type 0) (c x k : ℕ) : Type 0 where
   pub along : Along H x over c
   pub size : length over + 1 ≡ k
   pub from : c ≤ x
-  pub high : All (λ e. c ≤ e) over
+  pub high : AllByRecursion (λ e. c ≤ e) over
 
 -- Numbers of at most k + 1 channels on the way back to c, 0 for none yet; up to k none is shorter and none is missing.
 pub record Near (H : ℕ → ℕ → Type 0) (c k : ℕ) (away : List ℕ) : Type 0 where

@@ -1,6 +1,6 @@
 -- Rings over any relation between channels, and the smallest of them. Assumes nothing.
 use Rattle.std.specs.Prelude.{◌≡◌, ℕ, ◌<◌, ◌≤◌, ◌⊎◌, List, [], ◌∷◌, length, ◌≢◌}
-use Rattle.std.specs.List.{AllByRecursion as All}
+use Rattle.std.specs.List.{AllByRecursion}
 
 -- a way from c over the members of a list, in their order, to y: each hands blocks to the next
 abbrev pub Along : (ℕ → ℕ → Type 0) → ℕ → List ℕ → ℕ → Type 0
@@ -10,7 +10,7 @@ Along H c (e ∷ es) y = H c e × Along H e es y
 -- all different
 abbrev pub Differ : List ℕ → Type 0
 Differ [] = Unit {0}
-Differ (c ∷ cs) = All (λ e. c ≢ e) cs × Differ cs
+Differ (c ∷ cs) = AllByRecursion (λ e. c ≢ e) cs × Differ cs
 
 -- A ring: channels, all different, each handing blocks to the next and the last to the first.
 abbrev pub Ring : (ℕ → ℕ → Type 0) → List ℕ → Type 0
@@ -23,7 +23,7 @@ NoRing H = (cs : List ℕ) → Ring H cs → ⊥
 -- written from its lowest member on
 abbrev pub FromLowest : List ℕ → Type 0
 FromLowest [] = Unit {0}
-FromLowest (c ∷ cs) = All (λ e. c ≤ e) cs
+FromLowest (c ∷ cs) = AllByRecursion (λ e. c ≤ e) cs
 
 -- in order, member by member, the first list comes before the second or is the same
 abbrev pub NotAfter : List ℕ → List ℕ → Type 0
