@@ -1,3 +1,4 @@
 pub mod Credit
+pub mod Nth
 pub mod Ring
 pub mod Store

@@ -1,6 +1,7 @@
 ghost use Rattle.net.specs.Heads.{head_of, tail_of};
+ghost use Rattle.store.specs.Nth.{nth};
 ghost use Rattle.store.specs.Store.{items};
-ghost use Rattle.std.specs.Prelude.{◌≡◌, [], ◌∷◌, ◌++◌, length, if◌then◌else◌, nat_lt};
+ghost use Rattle.std.specs.Prelude.{◌≡◌, ◌+◌, ◌%◌, ◌<◌, [], ◌∷◌, ◌++◌, length, if◌then◌else◌, nat_lt};
 
 use super::{SIZE, Store};
 use net::Block;
@@ -60,6 +61,24 @@ impl Store {
             return None;
         }
         Some(self.blocks[self.first as usize])
+    }
+
+    // The block with i others before it, the oldest being first.
+    pub fn get(&self, i: usize) -> Option<Block>
+        ensures { result ≡ nth (items self.now) i }
+    {
+        if usize::from(self.count) <= i {
+            return None;
+        }
+        Some(self.blocks[self.place(i)])
+    }
+
+    // Where the block with i others before it stands.
+    fn place(&self, i: usize) -> usize
+        requires { i < 32 }
+        ensures { result ≡ (self.now.first + i) % 32 }
+    {
+        (self.first as usize + i) % SIZE as usize
     }
 
     // How many blocks it holds.

@@ -1,0 +1,17 @@
+use Rattle.std.proofs.Common.{arith}
+use Rattle.store.proofs.Fits.{items_count}
+use Rattle.store.proofs.Rings.{nth_past, ring_nth}
+use Rattle.store.specs.Store.{items}
+use Rattle.store.proofs.store.Store.get.Goals as goal
+
+pub returns-then-from-i : goal.returns-then-self-i
+returns-then-from-i c =
+    let s = c.args.self.now in
+    let e = items_count s in
+    nth_past (items s) c.args.i (omega arith)
+
+pub returns : goal.returns
+unfolding items
+returns c =
+    let s = c.args.self.now in
+    ring_nth s.blocks s.first s.count c.args.i _ _ s.whole s.starts s.fits (omega arith) c.place.ensures
