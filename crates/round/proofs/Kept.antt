@@ -12,6 +12,9 @@ use Rattle.machine.proofs.Counts.{count_right, turned}
 use Rattle.machine.proofs.Whole.{whole}
 use Rattle.net.proofs.Outside.{plan_good}
 use Rattle.round.specs.Fabric.{Fitted, Steady}
+use Rattle.round.specs.declared.error.Refusal.{Refusal}
+use Rattle.round.specs.declared.error.Refusal.TheVariants.{NoDoor, NoPlace, DoorFull, Memory, NoMoreRounds}
+use Rattle.round.specs.Refused.{Bars, BlockRefuses}
 use Rattle.round.specs.Running.{net_in, state_in}
 use Rattle.round.specs.declared.running.Running.{Running}
 
@@ -57,3 +60,11 @@ steady_past z g s p = record {
   counted = λ e l. ∥∥₁_elim p (ℕ_set _ _) (λ w. ap (λ (t : State). t.free e + length (t.queue e)) w.2 ∙ count_right z g w.0 w.1 e l);
   turned = λ e l. ∥∥₁_elim p le_prop (λ w. subst (λ (t : State). t.turn e < channels z) (sym w.2) (turned z g w.0 w.1 e l));
 }
+
+-- whatever bars a block refuses it
+pub barred : (z : Net) (s : State) (b : Block) (e : Refusal) → Bars z s b e → BlockRefuses z s b e
+barred z s b NoDoor h = h
+barred z s b NoPlace h = h
+barred z s b DoorFull h = h
+barred z s b Memory h = absurd h
+barred z s b NoMoreRounds h = h

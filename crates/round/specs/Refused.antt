@@ -22,6 +22,14 @@ BlockRefuses z s b DoorFull = (b.door < z.doors) × (b.place < z.places) × (409
 BlockRefuses z s b Memory = Welcome z s b
 BlockRefuses z s b NoMoreRounds = ⊥
 
+-- why a block is not welcome, whatever memory there is
+abbrev pub Bars : Net → State → Block → Refusal → Type 0
+Bars z s b NoDoor = z.doors ≤ b.door
+Bars z s b NoPlace = (b.door < z.doors) × (z.places ≤ b.place)
+Bars z s b DoorFull = (b.door < z.doors) × (b.place < z.places) × (4096 ≤ length (s.queue (z.links + b.door)))
+Bars z s b Memory = ⊥
+Bars z s b NoMoreRounds = ⊥
+
 -- a round is refused where its number does not fit 64 bits, or for want of memory
 abbrev pub RoundRefuses : State → Refusal → Type 0
 RoundRefuses s NoDoor = ⊥

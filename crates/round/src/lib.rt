@@ -12,6 +12,8 @@ mod methods;
 mod play;
 mod running;
 mod serve;
+mod views;
 
 pub use error::Refusal;
 pub use running::Running;
+pub use views::LinkView;

@@ -1,7 +1,7 @@
 ghost use Rattle.std.specs.Prelude.{◌≡◌, ◌+◌, ◌^◌, ◌<◌, length, is_ok, if◌then◌else◌, MatchOption, MatchResult};
 ghost use Rattle.machine.specs.Promise.{Kept};
 ghost use Rattle.machine.specs.Round.{enter, round as «round-spec», start as «start_spec»};
-ghost use Rattle.round.specs.Refused.{BlockRefuses, RoundRefuses, StartRefuses, Welcome};
+ghost use Rattle.round.specs.Refused.{Bars, BlockRefuses, RoundRefuses, StartRefuses, Welcome};
 ghost use Rattle.round.specs.Running.{net_in, state_in};
 
 use crate::error::Refusal;
@@ -25,7 +25,7 @@ impl Running {
     }
 
     // How many blocks wait at a door.
-    fn waiting(&self, door: usize) -> usize
+    pub(crate) fn waiting(&self, door: usize) -> usize
         requires { door < self.now.plan.layout.doors }
         ensures { result ≡ length ((state_in self.now).queue (self.now.plan.layout.links + door)) }
     {
@@ -35,6 +35,13 @@ impl Running {
     // Why a block can't be let in, the first cause of several.
     fn refused(&self, block: Block) -> Option<Refusal>
         ensures { MatchOption result (Welcome (net_in self.now) (state_in self.now) block) (BlockRefuses (net_in self.now) (state_in self.now) block) }
+    {
+        self.why_not(block)
+    }
+
+    // Why a block is not welcome, the first cause of several; want of memory is none of them.
+    pub fn why_not(&self, block: Block) -> Option<Refusal>
+        ensures { MatchOption result (Welcome (net_in self.now) (state_in self.now) block) (Bars (net_in self.now) (state_in self.now) block) }
     {
         let door = block.door as usize;
         if self.plan.layout.doors <= door {

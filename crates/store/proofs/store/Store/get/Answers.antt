@@ -4,7 +4,7 @@ use Rattle.store.proofs.Rings.{nth_past, ring_nth}
 use Rattle.store.specs.Store.{items}
 use Rattle.store.proofs.store.Store.get.Goals as goal
 
-pub returns-then-from-i : goal.returns-then-self-i
+pub returns-then-from-i : goal.returns-then-from-i
 returns-then-from-i c =
     let s = c.args.self.now in
     let e = items_count s in
