@@ -1,7 +1,14 @@
-// What the programs say of a refusal: one line names the fault's number, the offset of the thing that has it, the file,
-// and the cause.
+// What the programs print, line by line, as types that are shown: the lines of a hall that is laid, of rounds that are
+// played, and of a refusal, which names the fault's number, the offset of the thing that has it, the file, and the
+// cause. What each line of the first two holds is proved, byte by byte.
 #![tactic(auto)]
 
+mod lay;
 mod lines;
+mod rings;
+mod run;
 
+pub use lay::{DoorLine, EntryWord, HeadLine, LevelLine, LinkLine, RoadHead, RootLine, TableHead};
 pub use lines::{Notice, Source};
+pub use rings::RankLine;
+pub use run::{BlockWord, CameLine, ShowLine, StoreHead, WaitingLine};

@@ -33,6 +33,7 @@ impl fmt::Display for Cause {
             Fault::Apart(s) => write!(f, "switch {s} cannot be reached from switch 0"),
             Fault::LongPatience => write!(f, "a patience is above 2^40"),
             Fault::LongWait => write!(f, "a wait is above 2^40"),
+            Fault::TooLong => write!(f, "a patience or a wait is above 2^40"),
             other => later(other, f),
         }
     }

@@ -13,6 +13,7 @@ use Rattle.wire.specs.declared.fault.Fault.TheVariants.{
   Apart,
   LongPatience,
   LongWait,
+  TooLong,
   NoDoor,
   NoPlace,
   OldName,
@@ -39,6 +40,7 @@ fault_number (Itself _) = 3
 fault_number (Apart _) = 4
 fault_number LongPatience = 5
 fault_number LongWait = 5
+fault_number TooLong = 5
 fault_number (NoDoor _) = 6
 fault_number (NoPlace _) = 6
 fault_number (OldName _) = 7

@@ -23,6 +23,7 @@ pub enum Fault {
     // 5: a patience or a wait that is too long.
     LongPatience,
     LongWait,
+    TooLong,
     // 6: a door or a place that isn't there.
     NoDoor(u8),
     NoPlace(u8),
@@ -63,7 +64,7 @@ impl Fault {
             Fault::Switches(_) | Fault::Room(_) | Fault::TooManyCables(_) | Fault::NoSwitch(_) => 2,
             Fault::Itself(_) => 3,
             Fault::Apart(_) => 4,
-            Fault::LongPatience | Fault::LongWait => 5,
+            Fault::LongPatience | Fault::LongWait | Fault::TooLong => 5,
             Fault::NoDoor(_) | Fault::NoPlace(_) => 6,
             Fault::OldName(_) => 7,
             Fault::DoorFull(_) => 8,
