@@ -1,23 +1,23 @@
 -- The theorems of the table: the roads that it walks, where entries are here, and the net of its layout. Assumes nothing.
-use Rattle.std.proofs.Common.{◌≡◌, ℕ, zero, suc, ◌+◌, ◌-◌, ◌*◌, ◌<◌, ◌≤◌, Bool, true, false, ltb, ◌⊎◌, List, [], ◌∷◌, length, get_or, vec_items, vec_len, sym, refl, ap, ◌∙◌, subst, inl, inr, ⊎_elim, mul-le-mul_right, arith}
+use Rattle.std.proofs.Common.{◌≡◌, ℕ, zero, suc, ◌+◌, ◌-◌, ◌*◌, ◌<◌, ◌≤◌, Bool, true, false, cond, not, ◌&&◌, ◌||◌, eqb, ltb, ◌⊎◌, List, [], ◌∷◌, length, get_or, vec_items, vec_len, sym, refl, ap, ◌∙◌, subst, inl, inr, ⊎_elim, mul-le-mul_right, arith}
 use Rattle.std.proofs.lemmas.List.{get_or_past}
-use Rattle.std.proofs.lemmas.Bool.{eqb-true, eq-eqb, lt-ltb, le-ltb, cases_Bool, cases_lt, cond-true, cond-false, both_ways}
+use Rattle.std.proofs.lemmas.Bool.{eqb-true, eq-eqb, ltb-true, lt-ltb, le-ltb, cases_Bool, cases_lt, cond-true, cond-false, both_ways}
 use Rattle.net.specs.declared.Entry.{Entry}
 use Rattle.net.specs.declared.Entry.TheVariants.{Here, Link}
 use Rattle.net.specs.declared.layout.Layout.{Layout}
-use Rattle.net.specs.Layout.{net_of}
-use Rattle.net.specs.Net.{Leads, there, along}
+use Rattle.net.specs.Layout.{Sized, net_of, entry_at}
+use Rattle.net.specs.Net.{Good, Leads, there, along}
 use Rattle.roads.specs.Roads.{Road, there as stay, along as goBy, shortest, first}
 use Rattle.roads.proofs.Roads.{first_lowest, none_shorter, shortest_goal}
 use Rattle.graph.specs.Graph.{Graph}
 use Rattle.graph.specs.Tree.{level}
-use Rattle.tree.specs.Legal.{goes_up, legal, stands}
+use Rattle.tree.specs.Legal.{goes_up, rank_of, legal, stands}
 use Rattle.tree.specs.Laws.{Sound}
 use Rattle.tree.proofs.Rising.{ranks_rise}
-use Rattle.table.specs.Kept.{most, start, whole, met, kept}
-use Rattle.table.specs.Laid.{Laid}
-use Rattle.table.specs.Laws.{Takes, come, next, Lowest, end, low, RoadsAreRight, HereWhereItShould, LaidIsGood}
-use Rattle.table.proofs.Follow.{Next, arrived, onto, not_both, start_link, start_door, here_at, away_at, next_of, link_is, met_far, met_on, met_door}
+use Rattle.table.specs.Kept.{most, start, onward, whole, met, kept}
+use Rattle.table.specs.Laid.{Laid, net_for}
+use Rattle.table.specs.Laws.{Takes, come, next, Lowest, end, low, Walked, RoadsAreRight, HereWhereItShould, Serves, LaidIsGood}
+use Rattle.table.proofs.Follow.{Next, arrived, onto, not_both, start_link, start_door, here_at, away_at, next_of, link_is, door_far, met_far, met_on, met_door}
 
 -- the road that the table walks from channel c to place p
 record Way (g : Graph) (up : ℕ → Bool) (p c : ℕ) : Type 0 where
@@ -206,6 +206,43 @@ module _ (g : Graph) (z : Sound g) (r : ℕ) (lr : r < g.n) (room : ℕ) (l : La
       let w = (kept_link g (goes_up g (level g r)) c p k e).1 in
       let o = (link_is g (goes_up g (level g r)) p (start g (goes_up g (level g r)) c) k w).0 in
       along (next_in c p lc lp ∙ e) (leads_by p k ks lp (omega arith) t (met_on g z r lr p c k lp h w))
+
+  next_is : (c p : ℕ) → (net_of l).next c p ≡ (net_for g r room).next c p
+  next_is c p = ⊎_elim
+      (λ (lp : p < g.n).
+      sym (cond-true (ltb p g.n) _ Here (lt-ltb p g.n lp) ∙ ⊎_elim
+      (λ (lc : c < g.links + g.n). cond-true (ltb c (g.links + g.n)) (kept g (goes_up g (level g r)) c p) Here (lt-ltb c (g.links + g.n) lc) ∙ sym (next_in c p lc lp))
+      (λ h. cond-false (ltb c (g.links + g.n)) (kept g (goes_up g (level g r)) c p) Here (le-ltb c (g.links + g.n) h) ∙ sym (next_out c p (inr h)))
+      (cases_lt c (g.links + g.n))))
+      (λ h. next_out c p (inl h) ∙ sym (cond-false (ltb p g.n) _ Here (le-ltb p g.n h))) (cases_lt p g.n)
+
+  rank_is : (c : ℕ) → (net_of l).rank c ≡ (net_for g r room).rank c
+  rank_is c = ⊎_elim
+      (λ (h : c < g.links). a.ranks c h ∙ sym (cond-true (ltb c g.links) (rank_of g (level g r) (goes_up g (level g r)) c) 0 (lt-ltb c g.links h)))
+      (λ h. a.door_ranks c h ∙ sym (cond-false (ltb c g.links) (rank_of g (level g r) (goes_up g (level g r)) c) 0 (le-ltb c g.links h)))
+      (cases_lt c g.links)
+
+  ends_is : (c : ℕ) → (net_of l).ends c ≡ (net_for g r room).ends c
+  ends_is c = ap (λ (m : ℕ). cond (ltb c m) (get_or (vec_items l.ends) c 0) (c - m)) a.links ∙ ⊎_elim
+      (λ (h : c < g.links).
+      cond-true (ltb c g.links) (get_or (vec_items l.ends) c 0) (c - g.links) (lt-ltb c g.links h) ∙ a.ends c h
+      ∙ sym (cond-true (ltb c g.links) (g.to c) (c - g.links) (lt-ltb c g.links h)))
+      (λ h.
+      cond-false (ltb c g.links) (get_or (vec_items l.ends) c 0) (c - g.links) (le-ltb c g.links h)
+      ∙ sym (cond-false (ltb c g.links) (g.to c) (c - g.links) (le-ltb c g.links h)))
+      (cases_lt c g.links)
+
+  -- the layout's net is the one that is worked out with no layout
+  pub laid_net : net_of l ≡ net_for g r room
+  laid_net = λ i. record {
+    links = a.links i;
+    doors = a.doors i;
+    places = a.places i;
+    store = a.room i;
+    next = λ c p. next_is c p i;
+    rank = λ c. rank_is c i;
+    ends = λ c. ends_is c i;
+  }
 
 pub laid_good : LaidIsGood
 laid_good g z few short r lr room some most₁ l a =

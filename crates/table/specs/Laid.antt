@@ -1,7 +1,8 @@
 -- The layout of a net whose cables are a graph with a root. Assumes nothing.
-use Rattle.std.specs.Prelude.{◌≡◌, ℕ, ◌+◌, ◌*◌, ◌<◌, ◌≤◌, length, vec_items, slice_index, slice_index_or}
+use Rattle.std.specs.Prelude.{◌≡◌, ℕ, ◌+◌, ◌-◌, ◌*◌, ◌<◌, ◌≤◌, Bool, cond, length, vec_items, vec_len, nat_lt, slice_index, slice_index_or}
 use Rattle.net.specs.declared.layout.Layout.{Layout}
 use Rattle.net.specs.declared.Entry.TheVariants.{Here}
+use Rattle.net.specs.Net.{Net}
 use Rattle.graph.specs.Graph.{Graph}
 use Rattle.graph.specs.Tree.{level}
 use Rattle.tree.specs.Legal.{goes_up, rank_of}
@@ -20,3 +21,16 @@ pub record Laid (g : Graph) (r m : ℕ) (l : Layout) : Type 0 where
   pub door_ranks : (c : ℕ) → g.links ≤ c → slice_index (vec_items l.ranks) c ≡ 0
   pub ended : length (vec_items l.ends) ≡ g.links
   pub ends : (k : ℕ) → k < g.links → slice_index (vec_items l.ends) k ≡ g.to k
+
+-- The net of graph g with root r, worked out with no layout: stores for m blocks, the kept entries (outside of the table: here),
+-- ranks, and where channels end.
+abbrev pub net_for : Graph → ℕ → ℕ → Net
+net_for g r m = record {
+  links = g.links;
+  doors = g.n;
+  places = g.n;
+  store = m;
+  next = λ c p. cond (nat_lt p g.n) (cond (nat_lt c (g.links + g.n)) (kept g (goes_up g (level g r)) c p) Here) Here;
+  rank = λ c. cond (nat_lt c g.links) (rank_of g (level g r) (goes_up g (level g r)) c) 0;
+  ends = λ c. cond (nat_lt c g.links) (g.to c) (c - g.links);
+}
