@@ -1,7 +1,7 @@
 -- Worked cases as rows of one table: cables, and what the definitions make of them. Assumes nothing.
 use Rattle.std.specs.Prelude.{◌≡◌, ℕ, zero, suc, ◌+◌, Bool, true, false, not, ◌&&◌, List, [], ◌∷◌, map, ◌==◌}
-use Rattle.std.specs.List.{range_with_len, AllByRecursion as All}
-use Rattle.net.specs.declared.Cable.{Cable}
+use Rattle.std.specs.List.{range_with_len, AllByRecursion}
+use Rattle.graph.specs.declared.Cable.{Cable}
 use Rattle.net.specs.declared.Came.{Came}
 use Rattle.net.specs.declared.Entry.{Entry}
 use Rattle.net.specs.declared.Entry.TheVariants.{Here, Link}
@@ -85,7 +85,7 @@ pub record Holds (w : Case) : Type 0 where
   pub table : table_of (net w) ≡ w.table
   pub feeders : map (λ e. feedersOf (net w) e (channels (net w))) (range_with_len 0 (net w).links) ≡ w.feeders
   pub patience : map (λ c. patienceOf (net w) c) (range_with_len 0 (channels (net w))) ≡ w.patience
-  pub ways : All (Goes (net w)) w.ways
+  pub ways : AllByRecursion (Goes (net w)) w.ways
   pub came : map arrival (after (net w) w.script).came ≡ w.came
   pub in_turn : taken_in_turn (map arrival (after (net w) w.script).came) ≡ w.in_turn
 
@@ -224,4 +224,4 @@ abbrev pub cases : List Case
 cases = one_switch ∷ two_switches ∷ two_cables ∷ star ∷ ring_of_four ∷ []
 
 abbrev pub CasesHold : Type 0
-CasesHold = All Holds cases
+CasesHold = AllByRecursion Holds cases

@@ -1,5 +1,5 @@
-use graph::{CableError, Cabling};
-use net::{Cable, Entry};
+use graph::{Cable, CableError, Cabling};
+use net::Entry;
 use ring::Verdict;
 use std::alloc::Global;
 use std::process::Abort;

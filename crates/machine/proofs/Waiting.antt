@@ -206,7 +206,7 @@ module _ (order : InOrderOfRank) (z : Net) (good : Good z) where
         (round_on z good P R pat s (round z s) r.0 r.1 (steady_ok z vs (round z s) st.1) b u.channel u.links u.others u.first (rounds vs)
         u.below u.enough u.left u.sum st.0 u.stands)
 
-play_append : (z : Net) (us vs : List Event) (s : State) → play z (us ++ vs) s ≡ play z vs (play z us s)
+pub play_append : (z : Net) (us vs : List Event) (s : State) → play z (us ++ vs) s ≡ play z vs (play z us s)
 unfolding play
 play_append z [] vs s = refl
 play_append z (u ∷ us) vs s = play_append z us vs (step z u s)

@@ -70,7 +70,7 @@ fn waiting(text: &mut String, running: &Running) -> anyhow::Result<()>
     ensures { OnOk result (string_bytes text.new ≡ string_bytes text.old ++ below (waiting_one running.now) (net_in running.now).doors) }
 {
     for door in 0..running.plan().layout.doors {
-        let count = running.waiting(door).unwrap_or(0);
+        let count = running.waiting_at(door).unwrap_or(0);
         writeln!(text, "{}", WaitingLine { door, count })?;
     }
     Ok(())

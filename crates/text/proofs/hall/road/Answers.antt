@@ -1,9 +1,24 @@
-use Rattle.std.proofs.Common.{◌≡◌, ℕ, ◌+◌, ◌<◌, List, ◌++◌, length, get_or, take, vec_items, vec_len, string_bytes, codes, decimal, sym, refl, ap, ◌∙◌, arith, lit<, rules}
-use Rattle.std.proofs.lemmas.List.{get_or_read, get_or_past, append-nil}
-use Rattle.text.specs.Texts.{below, each, none_word, numbered}
-use Rattle.text.specs.Laid.{Ways, along_text, doors_text, end_one, head_text, links_text, road_one, road_text, roads_text, table_text}
-use Rattle.text.proofs.Eachs.{below_starts, below_grows, ends, grows, none_gone, none_there, starts, three, four, two, value_is}
+use Rattle.std.proofs.Common.{◌≡◌, ℕ, List, ◌++◌, vec_items, string_bytes, sym, ap, ◌∙◌, subst}
+use Rattle.std.specs.Option.{IfSome}
+use Rattle.std.specs.declared.option.Option.{Option}
+use Rattle.std.specs.declared.vec.Vec.{Vec}
+use Rattle.net.specs.Layout.{net_of}
+use Rattle.report.specs.Lines.{road_head}
+use Rattle.text.specs.Laid.{Way, along_text, road_text, wait_along}
+use Rattle.text.proofs.Eachs.{two}
+use Rattle.text.proofs.Walks.{one_road, wait_is}
 use Rattle.text.proofs.hall.road.Goals as goal
 
 pub returns : goal.returns
-returns c = let a = c.wait-wait.ensures in let b = c.in-Some.ensures in ?
+returns c es w =
+    let h = c.args.hall.now in
+    let links = vec_items c.in-Some.links in
+    let way : Way h c.args.from c.args.place links =
+    subst (λ o. IfSome o (λ v. Way h c.args.from c.args.place (vec_items v))) c.in-Some.is c.in_ok-links.ensures.road in
+    let s = string_bytes c.args.text.now in
+    let n : c.unwrap_or-wait.result ≡ wait_along h c.args.from links =
+    wait_is h c.args.from c.args.place c.unwrap_or-wait.result links c.wait.result c.requires.door c.requires.place way c.wait.ensures c.unwrap_or-wait.ensures in
+    let t = two s (string_bytes c.write.new.self) (string_bytes c.along.new.text) (road_head c.args.from c.args.place (wait_along h c.args.from links)) (along_text h links)
+    (c.in_ok-write.ensures.bytes ∙ ap (λ (m : ℕ). s ++ road_head c.args.from c.args.place m) n)
+    (c.in_ok-along.ensures ∙ ap (λ (xs : List ℕ). string_bytes c.write.new.self ++ along_text h xs) c.as_slice.ensures.value) in
+    subst (λ (xs : List ℕ). string_bytes c.along.new.text ≡ s ++ road_text h c.args.from c.args.place xs) (one_road (net_of h.bounds.plan.layout) way w) t

@@ -16,8 +16,8 @@ loop-door-preserved c =
     below_grows (waiting_one c.args.running.now) (string_bytes c.args.text.now) (string_bytes c.loop-door.text) (string_bytes c.writeln.new.self) c.loop-door.door c.loop-door.invariant
     (c.in_ok-writeln.ensures.bytes
     ∙ ap (λ (n : ℕ). string_bytes c.loop-door.text ++ (waiting_line c.loop-door.door n ++ codes "\n"))
-    (value_is c.waiting.result c.loop-door.door g.plan.layout.doors (length ((state_in g).queue ((net_in g).links + c.loop-door.door))) c.unwrap_or-count.result (omega (arith, l))
-    c.waiting.ensures c.unwrap_or-count.ensures))
+    (value_is c.waiting_at.result c.loop-door.door g.plan.layout.doors (length ((state_in g).queue ((net_in g).links + c.loop-door.door))) c.unwrap_or-count.result (omega (arith, l))
+    c.waiting_at.ensures c.unwrap_or-count.ensures))
 
 pub returns : goal.returns
 returns c =

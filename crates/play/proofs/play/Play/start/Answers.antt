@@ -10,4 +10,4 @@ invariant_of-result c =
     let e = c.in_ok-game.ensures in
     let p = play_starts c.args.cables.now c.args.script.now g.running (vec_items g.fresh) c.in_ok-hall.hall (net_of c.into_plan.result.layout)
     c.in_ok-hall.ensures (sym (ap (λ (m : Plan). net_of m.layout) c.into_plan.ensures)) e.0 e.1 in
-    (p.0, (∣ p.1 ∣₁, tt))
+    record { counted = p.0; past = ∣ p.1 ∣₁ }
