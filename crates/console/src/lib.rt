@@ -4,12 +4,9 @@
 use anyhow::anyhow;
 use report::{Notice, Source};
 use std::io::{Read, Write};
+use std::process::ExitCode;
 use std::{fs, io};
 use wire::WireError;
-
-// The program ends with status 1; what was to be said has been said.
-#[derive(Drop)]
-pub struct Failed;
 
 // The bytes of a file; `-` is standard input.
 fn read(rt: &HostRuntime, name: &str) -> io::Result<Vec<u8>> {
@@ -49,13 +46,13 @@ pub fn refuse(rt: &HostRuntime, source: Source, error: WireError) -> anyhow::Res
 }
 
 // How a program ends: with status 0 if all went well, else with status 1; a cause that was not told yet is told first.
-pub fn finish(rt: &HostRuntime, program: &str, done: anyhow::Result<bool>) -> Result<(), Failed> {
+pub fn finish(rt: &HostRuntime, program: &str, done: anyhow::Result<bool>) -> ExitCode {
     match done {
-        Ok(true) => Ok(()),
-        Ok(false) => Err(Failed),
+        Ok(true) => ExitCode::SUCCESS,
+        Ok(false) => ExitCode::FAILURE,
         Err(cause) => {
             let _ = eprintln!(rt; "{program}: {cause}");
-            Err(Failed)
+            ExitCode::FAILURE
         }
     }
 }

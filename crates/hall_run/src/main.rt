@@ -1,8 +1,12 @@
 // Plays a script against a hall, and prints what comes and what is to be shown, as it happens.
-use console::{Failed, finish, load, put, refuse};
+#![tactic(auto)]
+
+use anyhow::anyhow;
+use console::{finish, load, put, refuse};
 use play::Play;
 use report::Source;
 use std::env;
+use std::process::ExitCode;
 use text::Account;
 use wire::WireError;
 
@@ -10,11 +14,11 @@ use wire::WireError;
 const ENOUGH: usize = 65_536;
 
 const HELP: &str =
-    "usage: run CABLES SCRIPT   (a file of cables and a file of a script; - is standard input)";
+    "usage: hall_run CABLES SCRIPT   (a file of cables and a file of a script; - is standard input)";
 
-fn main(rt: HostRuntime) -> Result<(), Failed> {
+fn main(rt: HostRuntime) -> ExitCode {
     let done = run(&rt);
-    finish(&rt, "run", done)
+    finish(&rt, "hall_run", done)
 }
 
 // Whether the script was played to its end.
@@ -22,12 +26,12 @@ fn run(rt: &HostRuntime) -> anyhow::Result<bool> {
     let mut words = env::args(rt)?;
     let _program = words.next();
     let (Some(cables), Some(script), None) = (words.next(), words.next(), words.next()) else {
-        return Err(HELP.into());
+        return Err(anyhow!("{HELP}"));
     };
-    let Some(cables) = load(rt, "run", cables.as_str())? else {
+    let Some(cables) = load(rt, "hall_run", cables.as_str())? else {
         return Ok(false);
     };
-    let Some(script) = load(rt, "run", script.as_str())? else {
+    let Some(script) = load(rt, "hall_run", script.as_str())? else {
         return Ok(false);
     };
     match Play::start(rt.alloc(), cables.as_slice(), script.as_slice()) {

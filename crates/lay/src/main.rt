@@ -1,15 +1,17 @@
 // Lays a hall: reads a list of cables and prints its tree, its table, and for each pair the road and the wait.
 #![tactic(auto)]
 
-use console::{Failed, finish, load, put, refuse};
+use anyhow::anyhow;
+use console::{finish, load, put, refuse};
 use plan::Hall;
 use report::Source;
 use std::env;
+use std::process::ExitCode;
 use text::hall_text;
 
 const HELP: &str = "usage: lay CABLES   (a file of cables, or - for standard input)";
 
-fn main(rt: HostRuntime) -> Result<(), Failed> {
+fn main(rt: HostRuntime) -> ExitCode {
     let done = lay(&rt);
     finish(&rt, "lay", done)
 }
@@ -19,7 +21,7 @@ fn lay(rt: &HostRuntime) -> anyhow::Result<bool> {
     let mut words = env::args(rt)?;
     let _program = words.next();
     let (Some(name), None) = (words.next(), words.next()) else {
-        return Err(HELP.into());
+        return Err(anyhow!("{HELP}"));
     };
     let Some(bytes) = load(rt, "lay", name.as_str())? else {
         return Ok(false);
