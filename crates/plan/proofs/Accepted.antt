@@ -1,15 +1,15 @@
 -- Why an accepted list of cables has a tree, a plan and bounds, and what its refusals say. Assumes nothing.
-use Rattle.std.proofs.Common.{◌≡◌, ℕ, zero, suc, ◌+◌, ◌<◌, ◌≤◌, Bool, true, false, cond, ◌&&◌, ◌||◌, ltb, leb, ◌⊎◌, List, [], ◌∷◌, map, length, get_or, Ok, Err, vec_items, Result, sym, refl, ap, ◌∙◌, subst, inl, inr, ⊎_elim, arith}
+use Rattle.std.proofs.Common.{◌≡◌, ℕ, zero, suc, ◌+◌, ◌<◌, ◌≤◌, Bool, true, false, cond, ltb, ◌⊎◌, List, [], ◌∷◌, map, length, get_or, Ok, Err, vec_items, sym, refl, ap, ◌∙◌, subst, inl, inr, ⊎_elim, arith}
 use Rattle.std.proofs.lemmas.List.{length-map}
-use Rattle.std.proofs.lemmas.Bool.{and_from, both_ways, cases_Bool, cases_lt, or_from, or_left, or_right, ltb-true, cond-true, cond-false, lt-ltb, le-ltb, le-leb, lt-leb}
+use Rattle.std.proofs.lemmas.Bool.{and_from, both_ways, cases_Bool, cases_lt, or_from, or_left, or_right, cond-true, cond-false, lt-ltb, le-ltb, le-leb, lt-leb}
 use Rattle.net.specs.declared.Entry.{Entry}
 use Rattle.net.specs.declared.Entry.TheVariants.{Here, Link}
 use Rattle.net.specs.declared.layout.Layout.{Layout}
 use Rattle.net.specs.declared.plan.Plan.{Plan}
-use Rattle.net.specs.Layout.{FirstOfAll, entry_at, net_of, rises_to, rises_at}
+use Rattle.net.specs.Layout.{FirstOfAll, net_of, rises_to, rises_at}
 use Rattle.net.specs.Net.{Net, Good, Leads, channels}
 use Rattle.machine.specs.Waits.{patience, wait}
-use Rattle.roads.specs.Numbers.{Least, least, some}
+use Rattle.roads.specs.Numbers.{some}
 use Rattle.roads.proofs.Below.{least_is, some_from, some_one}
 use Rattle.roads.proofs.Roads.{one_so_short}
 use Rattle.graph.specs.Graph.{Graph}
@@ -21,7 +21,7 @@ use Rattle.table.specs.Laid.{net_for}
 use Rattle.table.specs.Promised.{LaidOut, graph_in}
 use Rattle.table.proofs.Served.{laid_net}
 use Rattle.tree.proofs.Growing.{sound_in}
-use Rattle.waits.specs.Working.{Exceeds, TooPatient, TooSlow, Within, longest}
+use Rattle.waits.specs.Working.{Exceeds, Within, longest}
 use Rattle.wire.specs.declared.cables.Cable.{Cable as Read}
 use Rattle.wire.specs.declared.fault.Fault.TheVariants.{Apart, TooLong}
 use Rattle.wire.specs.declared.fault.Refusal.{Refusal}

@@ -1,5 +1,5 @@
 -- What the code's hall holds, and what laying one answers. Assumes nothing.
-use Rattle.std.specs.Prelude.{◌≡◌, ℕ, ◌+◌, ◌<◌, List, Ok, Err, Result}
+use Rattle.std.specs.Prelude.{◌≡◌, ℕ, ◌+◌, ◌<◌, List, Ok, Err}
 use Rattle.net.specs.Layout.{net_of}
 use Rattle.net.specs.Net.{Good, Leads, Net}
 use Rattle.net.specs.declared.plan.Plan.{Plan}
@@ -9,7 +9,6 @@ use Rattle.tree.specs.declared.planted.Tree.{Tree}
 use Rattle.table.specs.Promised.{graph_in}
 use Rattle.table.specs.Laid.{net_for}
 use Rattle.waits.specs.Working.{Exceeds, Within}
-use Rattle.wire.specs.declared.fault.Refusal.{Refusal}
 use Rattle.wire.specs.declared.fault.Fault.TheVariants.{Apart, TooLong}
 use Rattle.wire.specs.declared.fault.WireError.{WireError}
 use Rattle.wire.specs.declared.fault.WireError.TheVariants.{Refused, Memory}

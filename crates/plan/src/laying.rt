@@ -28,7 +28,10 @@ fn at_end(fault: Fault, end: usize) -> WireError
 fn taken(heap: Global, cables: &[wire::Cable]) -> Result<Vec<Cable>, AllocError>
     ensures { IfOk result (λ v. v.items ≡ map «taken_by» cables.now) }
 {
-    cables.iter().map(|c| Cable { a: c.a, b: c.b }).collect(heap)
+    cables
+        .iter()
+        .map(|c| Cable { a: c.a, b: c.b })
+        .collect(heap)
 }
 
 // The links and the root of a list of cables, which is refused only where a switch cannot be reached.

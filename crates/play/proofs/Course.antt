@@ -1,5 +1,5 @@
 -- Where the things of a script lead. Assumes nothing.
-use Rattle.std.proofs.Common.{◌≡◌, ℕ, ◌+◌, ◌<◌, ◌≤◌, Bool, true, false, cond, ltb, leb, ◌⊎◌, List, [], ◌∷◌, ◌++◌, length, get_or, drop, replicate, Some, None, Ok, Err, Option, Result, sym, refl, ap, ◌∙◌, subst, inl, inr, ⊎_elim, append-nil, arith}
+use Rattle.std.proofs.Common.{◌≡◌, ℕ, ◌+◌, ◌<◌, ◌≤◌, leb, ◌⊎◌, List, [], ◌∷◌, ◌++◌, length, get_or, drop, replicate, Some, None, Ok, Option, sym, refl, ap, ◌∙◌, subst, inl, inr, ⊎_elim, arith}
 use mathlib.Core.Path.{fun_ext}
 use mathlib.Core.List.Memᴰ
 use mathlib.Core.List.{Memᴰ}
@@ -7,9 +7,8 @@ use mathlib.Core.Logic.{∥∥₁_map}
 use Rattle.std.proofs.lemmas.List.{get_or_past, get_or-replicate, length-replicate}
 use Rattle.std.proofs.lemmas.Bool.{cases_lt, cond_both, leb-false}
 use Rattle.net.specs.declared.Block.{Block as Parcel}
-use Rattle.net.specs.Net.{Net, Good}
-use Rattle.machine.specs.Round.{State, Event, Enter, Round as Played, Orderly, after, play, start, round}
-use Rattle.machine.specs.Promise.{Promised}
+use Rattle.net.specs.Net.{Net}
+use Rattle.machine.specs.Round.{State, Event, Enter, Round as Played, Orderly, after, play, start}
 use Rattle.machine.proofs.Waiting.{play_append}
 use Rattle.machine.proofs.Whole.{whole}
 use Rattle.wire.specs.declared.fault.Fault.{Fault}

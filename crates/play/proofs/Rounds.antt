@@ -1,9 +1,9 @@
 -- A round counts itself once. Assumes nothing.
-use Rattle.std.proofs.Common.{◌≡◌, ℕ, zero, suc, ◌+◌, cond, ltb, List, [], ◌∷◌, Some, None, Option, refl, ◌∙◌}
+use Rattle.std.proofs.Common.{◌≡◌, ℕ, zero, suc, ◌+◌, ltb, List, [], ◌∷◌, Some, None, Option, refl, ◌∙◌}
 use Rattle.std.proofs.lemmas.Bool.{cond_both}
 use Rattle.net.specs.Net.{Net, channels}
 use Rattle.net.specs.Order.{serving}
-use Rattle.machine.specs.Round.{State, comes, counted, deliver, all_handed, handed_over, look, round, serve, all_served, take}
+use Rattle.machine.specs.Round.{State, comes, counted, deliver, all_handed, look, round, serve, all_served, take}
 
 hand_all : (z : Net) (c : ℕ) (s : State) → (all_handed z c s).round ≡ s.round
 unfolding all_handed

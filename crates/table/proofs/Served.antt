@@ -1,12 +1,12 @@
 -- The theorems of the table: the roads that it walks, where entries are here, and the net of its layout. Assumes nothing.
-use Rattle.std.proofs.Common.{◌≡◌, ℕ, zero, suc, ◌+◌, ◌-◌, ◌*◌, ◌<◌, ◌≤◌, Bool, true, false, cond, not, ◌&&◌, ◌||◌, eqb, ltb, ◌⊎◌, List, [], ◌∷◌, length, get_or, vec_items, vec_len, sym, refl, ap, ◌∙◌, subst, inl, inr, ⊎_elim, mul-le-mul_right, arith}
+use Rattle.std.proofs.Common.{◌≡◌, ℕ, zero, suc, ◌+◌, ◌-◌, ◌*◌, ◌<◌, ◌≤◌, Bool, true, false, cond, ltb, ◌⊎◌, List, [], ◌∷◌, length, get_or, vec_items, vec_len, sym, refl, ap, ◌∙◌, subst, inl, inr, ⊎_elim, mul-le-mul_right, arith}
 use Rattle.std.proofs.lemmas.List.{get_or_past}
-use Rattle.std.proofs.lemmas.Bool.{eqb-true, eq-eqb, ltb-true, lt-ltb, le-ltb, cases_Bool, cases_lt, cond-true, cond-false, both_ways}
+use Rattle.std.proofs.lemmas.Bool.{eqb-true, eq-eqb, lt-ltb, le-ltb, cases_Bool, cases_lt, cond-true, cond-false, both_ways}
 use Rattle.net.specs.declared.Entry.{Entry}
 use Rattle.net.specs.declared.Entry.TheVariants.{Here, Link}
 use Rattle.net.specs.declared.layout.Layout.{Layout}
-use Rattle.net.specs.Layout.{Sized, net_of, entry_at}
-use Rattle.net.specs.Net.{Good, Leads, there, along}
+use Rattle.net.specs.Layout.{net_of}
+use Rattle.net.specs.Net.{Leads, there, along}
 use Rattle.roads.specs.Roads.{Road, there as stay, along as goBy, shortest, first}
 use Rattle.roads.proofs.Roads.{first_lowest, none_shorter, shortest_goal}
 use Rattle.graph.specs.Graph.{Graph}
@@ -14,10 +14,10 @@ use Rattle.graph.specs.Tree.{level}
 use Rattle.tree.specs.Legal.{goes_up, rank_of, legal, stands}
 use Rattle.tree.specs.Laws.{Sound}
 use Rattle.tree.proofs.Rising.{ranks_rise}
-use Rattle.table.specs.Kept.{most, start, onward, whole, met, kept}
+use Rattle.table.specs.Kept.{most, start, whole, met, kept}
 use Rattle.table.specs.Laid.{Laid, net_for}
-use Rattle.table.specs.Laws.{Takes, come, next, Lowest, end, low, Walked, RoadsAreRight, HereWhereItShould, Serves, LaidIsGood}
-use Rattle.table.proofs.Follow.{Next, arrived, onto, not_both, start_link, start_door, here_at, away_at, next_of, link_is, door_far, met_far, met_on, met_door}
+use Rattle.table.specs.Laws.{Takes, come, next, Lowest, end, low, RoadsAreRight, HereWhereItShould, LaidIsGood}
+use Rattle.table.proofs.Follow.{Next, arrived, onto, not_both, start_link, start_door, here_at, away_at, next_of, link_is, met_far, met_on, met_door}
 
 -- the road that the table walks from channel c to place p
 record Way (g : Graph) (up : ℕ → Bool) (p c : ℕ) : Type 0 where

@@ -1,5 +1,5 @@
 -- The layout of a net whose cables are a graph with a root. Assumes nothing.
-use Rattle.std.specs.Prelude.{◌≡◌, ℕ, ◌+◌, ◌-◌, ◌*◌, ◌<◌, ◌≤◌, Bool, cond, length, vec_items, vec_len, nat_lt, slice_index, slice_index_or}
+use Rattle.std.specs.Prelude.{◌≡◌, ℕ, ◌+◌, ◌-◌, ◌*◌, ◌<◌, ◌≤◌, cond, length, vec_items, nat_lt, slice_index, slice_index_or}
 use Rattle.net.specs.declared.layout.Layout.{Layout}
 use Rattle.net.specs.declared.Entry.TheVariants.{Here}
 use Rattle.net.specs.Net.{Net}

@@ -1,5 +1,5 @@
 -- The texts of a hall that is laid, as lists of bytes. Assumes nothing.
-use Rattle.std.specs.Prelude.{ℕ, ◌+◌, Bool, false, List, [], ◌∷◌, ◌++◌, vec_items, vec_len, codes, decimal, slice_index, slice_index_or}
+use Rattle.std.specs.Prelude.{ℕ, ◌+◌, false, List, ◌++◌, vec_items, vec_len, codes, decimal, slice_index, slice_index_or}
 use Rattle.net.specs.Layout.{net_of}
 use Rattle.plan.specs.declared.hall.Hall.{Hall}
 use Rattle.report.specs.Lines.{door_line, entry_word, head_line, level_line, link_line, road_head, root_line, table_head}

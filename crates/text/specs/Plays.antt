@@ -1,5 +1,5 @@
 -- The texts of a script that is played, as lists of bytes. Assumes nothing.
-use Rattle.std.specs.Prelude.{ℕ, zero, suc, ◌+◌, List, [], ◌∷◌, ◌++◌, length, drop, codes}
+use Rattle.std.specs.Prelude.{ℕ, ◌+◌, List, [], ◌++◌, length, drop, codes}
 use Rattle.net.specs.declared.Block.{Block}
 use Rattle.net.specs.declared.Came.{Came}
 use Rattle.report.specs.Lines.{block_word, came_line, show_line, store_head, waiting_line}

@@ -1,4 +1,4 @@
-use Rattle.std.proofs.Common.{◌≡◌, subst}
+use Rattle.std.proofs.Common.{subst}
 use Rattle.net.specs.declared.error.PlanError.{PlanError}
 use Rattle.net.specs.Planned.{Refuses}
 use Rattle.plan.proofs.Accepted.{drawn, never_falls}

@@ -1,4 +1,4 @@
-use Rattle.std.proofs.Common.{vec_items, sym}
+use Rattle.std.proofs.Common.{vec_items}
 use Rattle.net.specs.declared.Entry.TheVariants.{Here, Link}
 use Rattle.net.specs.Layout.{net_of}
 use Rattle.waits.proofs.Fuel.{higher_falls}

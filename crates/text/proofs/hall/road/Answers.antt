@@ -1,7 +1,5 @@
-use Rattle.std.proofs.Common.{◌≡◌, ℕ, List, ◌++◌, vec_items, string_bytes, sym, ap, ◌∙◌, subst}
+use Rattle.std.proofs.Common.{◌≡◌, ℕ, List, ◌++◌, vec_items, string_bytes, ap, ◌∙◌, subst}
 use Rattle.std.specs.Option.{IfSome}
-use Rattle.std.specs.declared.option.Option.{Option}
-use Rattle.std.specs.declared.vec.Vec.{Vec}
 use Rattle.net.specs.Layout.{net_of}
 use Rattle.report.specs.Lines.{road_head}
 use Rattle.text.specs.Laid.{Way, along_text, road_text, wait_along}

@@ -1,4 +1,4 @@
-use Rattle.std.proofs.Common.{◌≡◌, ℕ, List, ◌++◌, take, string_bytes}
+use Rattle.std.proofs.Common.{◌≡◌, ◌++◌, take, string_bytes}
 use Rattle.text.specs.Texts.{each}
 use Rattle.text.specs.Laid.{end_one}
 use Rattle.text.proofs.hall.stops.Given as goal

@@ -1,4 +1,4 @@
-use Rattle.std.proofs.Common.{◌≡◌, string_bytes, codes, ap, ◌∙◌, arith}
+use Rattle.std.proofs.Common.{string_bytes, codes, arith}
 use Rattle.text.specs.Texts.{ranked}
 use Rattle.text.proofs.Eachs.{ends, grows, starts}
 use Rattle.text.proofs.rings.ranks_text.Goals as goal

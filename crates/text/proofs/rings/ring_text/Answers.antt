@@ -1,4 +1,4 @@
-use Rattle.std.proofs.Common.{◌≡◌, ℕ, List, ◌++◌, string_bytes, codes, ap, ◌∙◌, arith, lit<}
+use Rattle.std.proofs.Common.{ℕ, List, ◌++◌, string_bytes, codes, ap, ◌∙◌, arith, lit<}
 use Rattle.text.specs.Texts.{numbered}
 use Rattle.text.proofs.Eachs.{ends, grows, starts}
 use Rattle.text.proofs.rings.ring_text.Goals as goal

@@ -1,6 +1,6 @@
 use Rattle.text.proofs.script.blocks.Goals as goal
 use Rattle.text.proofs.script.blocks.Goals.{in-Some+in_ok-write, in_default}
-use Rattle.std.proofs.Common.{◌≡◌, ◌<◌, ◌++◌, length, string_bytes, refl, ap, ◌∙◌, arith}
+use Rattle.std.proofs.Common.{◌<◌, ◌++◌, length, string_bytes, refl, ap, ◌∙◌, arith}
 use Rattle.store.specs.Store.{items}
 use Rattle.text.specs.Plays.{block_one}
 use Rattle.text.proofs.Eachs.{ends, grows, nth_is, nth_none, starts}

@@ -1,4 +1,4 @@
-use Rattle.std.proofs.Common.{◌≡◌, string_bytes, refl, arith}
+use Rattle.std.proofs.Common.{string_bytes, refl, arith}
 use Rattle.text.specs.Plays.{came_one}
 use Rattle.text.proofs.Eachs.{ends, grows, starts}
 use Rattle.text.proofs.script.came_lines.Goals as goal

@@ -1,4 +1,4 @@
-use Rattle.std.proofs.Common.{◌≡◌, ℕ, List, ◌++◌, string_bytes, codes, ap, ◌∙◌}
+use Rattle.std.proofs.Common.{ℕ, ◌++◌, string_bytes, codes, ap, ◌∙◌}
 use Rattle.report.specs.Lines.{show_line}
 use Rattle.text.specs.Texts.{below}
 use Rattle.text.specs.Plays.{store_one, waiting_one}

@@ -1,5 +1,5 @@
 use Rattle.text.proofs.script.waiting.Goals as goal
-use Rattle.std.proofs.Common.{◌≡◌, ℕ, ◌+◌, List, ◌++◌, length, string_bytes, codes, refl, ap, ◌∙◌, arith}
+use Rattle.std.proofs.Common.{◌≡◌, ℕ, ◌+◌, ◌++◌, length, string_bytes, codes, refl, ap, ◌∙◌, arith}
 use Rattle.text.specs.Plays.{waiting_one}
 use Rattle.text.proofs.Eachs.{below_ends, below_starts, below_grows, value_is}
 use Rattle.net.specs.declared.plan.Plan.{Plan}

@@ -1,8 +1,6 @@
-use Rattle.std.proofs.Common.{◌≡◌, ℕ, List, get_or, replicate, vec_items, ap, ◌∙◌}
-use mathlib.Core.Path.{fun_ext}
+use Rattle.std.proofs.Common.{◌≡◌, get_or, vec_items, ap, ◌∙◌}
 use Rattle.net.specs.declared.plan.Plan.{Plan}
 use Rattle.net.specs.Layout.{net_of}
-use Rattle.net.specs.Net.{Net}
 use Rattle.machine.specs.Round.{start}
 use Rattle.round.specs.Running.{net_in, state_in}
 use Rattle.play.proofs.Course.{all_zero, same_position}

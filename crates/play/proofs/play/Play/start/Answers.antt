@@ -1,4 +1,4 @@
-use Rattle.std.proofs.Common.{◌≡◌, vec_items, sym, ap, ◌∙◌}
+use Rattle.std.proofs.Common.{vec_items, sym, ap}
 use Rattle.net.specs.declared.plan.Plan.{Plan}
 use Rattle.net.specs.Layout.{net_of}
 use Rattle.play.proofs.Course.{play_starts}

@@ -1,4 +1,4 @@
-use Rattle.std.proofs.Common.{◌≡◌, vec_items, sym, arith}
+use Rattle.std.proofs.Common.{vec_items, sym}
 use Rattle.play.proofs.Course.{play_on}
 use Rattle.play.proofs.play.Play.step.Goals as goal
 

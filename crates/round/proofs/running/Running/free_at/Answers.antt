@@ -1,4 +1,4 @@
-use Rattle.std.proofs.Common.{◌≡◌, ◌<◌, length, vec_items, sym, ◌∙◌, arith}
+use Rattle.std.proofs.Common.{◌<◌, length, vec_items, sym, ◌∙◌, arith}
 use Rattle.store.specs.Credit.{credit_free}
 use Rattle.round.proofs.Places.{mapped_read}
 use Rattle.round.proofs.running.Running.free_at.Goals as goal

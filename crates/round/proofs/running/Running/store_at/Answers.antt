@@ -1,4 +1,4 @@
-use Rattle.std.proofs.Common.{◌≡◌, ◌<◌, [], map, length, vec_items, deque_items, sym, ◌∙◌, arith}
+use Rattle.std.proofs.Common.{◌<◌, [], map, length, vec_items, deque_items, sym, ◌∙◌, arith}
 use Rattle.store.specs.Store.{items}
 use Rattle.round.proofs.Kept.{fitted_in}
 use Rattle.round.proofs.Places.{front_read, mapped_read}
