@@ -1,6 +1,5 @@
-// The whole text that each program prints, made of values of the library: a hall that is laid, a script that is played,
-// a verdict on a foreign table. That each line has the right bytes is proved in `report`; in which order the lines come is
-// only tested.
+// The texts that programs print, made of values of the library: a hall that is laid, a script that is played, a verdict
+// on a foreign table. Each text is proved, byte by byte, to be the one that specs/ describes; `report` has the lines.
 #![tactic(auto)]
 
 mod hall;
