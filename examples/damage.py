@@ -5,7 +5,8 @@
 
 PROGRAM is a path, as target/bin/hall_run. FILE is damaged; FILE-BEFORE, where there is one, is passed before it as it is. With
 STEP, of the 255 changes of a byte only every STEP-th is tried. Each run must end within ten seconds with status 0 and nothing
-on standard error, or with status 1 and one line there.
+on standard error, or with status 1 and one line there; where a ring is found,
+with status 1 and nothing there.
 """
 import os
 import subprocess
