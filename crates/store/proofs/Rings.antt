@@ -3,7 +3,8 @@ use Rattle.std.proofs.Common.{◌≡◌, ℕ, zero, suc, ◌+◌, ◌-◌, ◌%�
 use Rattle.std.proofs.lemmas.List.{length-take, length-drop, length-append, append_assoc, append-nil, drop-set-add, drop-set-lt, take-set-le, set-append_left, set-append_right, take_more_set, take-append-le, take-take, drop_all, drop_more, take_more, get_or-take, get_or-drop, get_or_append_left, get_or-append_right}
 use Rattle.std.proofs.lemmas.Bool.{cases_lt}
 use Rattle.net.specs.Heads.{head_of, tail_of}
-use Rattle.store.specs.Nth.{nth}
+use Rattle.std.specs.List.{slice_get}
+use Rattle.std.proofs.lemmas.Option.{slice_get-get_or}
 use Rattle.store.specs.Ring.{round, ring_of}
 
 pub length_round : {A : Type 0} (xs : List A) (i : ℕ) → i ≤ length xs → length (round xs i) ≡ length xs
@@ -96,16 +97,6 @@ ring_tail xs i k (suc m) d l hi p hn e =
     let c : ring_of xs k (suc m - 1) ≡ ring_of xs k m = ap (λ (j : ℕ). ring_of xs k j) (omega arith) in
     cc
 
-pub nth_get_or : {A : Type 0} (xs : List A) (i : ℕ) (d : A) → i < length xs → Some (get_or xs i d) ≡ nth xs i
-nth_get_or [] i d h = absurd (omega arith)
-nth_get_or (x ∷ xs) zero d h = refl
-nth_get_or (x ∷ xs) (suc i) d h = nth_get_or xs i d (omega arith)
-
-pub nth_past : {A : Type 0} (xs : List A) (i : ℕ) → length xs ≤ i → None ≡ nth xs i
-nth_past [] i h = refl
-nth_past (x ∷ xs) zero h = absurd (omega arith)
-nth_past (x ∷ xs) (suc i) h = nth_past xs i (omega arith)
-
 -- what stands m places from i on
 round_read : {A : Type 0} (xs : List A) (i m k : ℕ) (d : A) → length xs ≡ 32 → i < 32 → m < 32 → k ≡ (i + m) % 32 → get_or (round xs i) m d ≡ get_or xs k d
 round_read xs i m k d l hi hm e = ⊎_elim low high (cases_lt (i + m) 32)
@@ -119,9 +110,9 @@ round_read xs i m k d l hi hm e = ⊎_elim low high (cases_lt (i + m) 32)
         get_or-append_right (drop i xs) (take i xs) (32 - i) m d (simp length-drop (omega arith)) (omega arith) ∙
         get_or-take i xs (m - (32 - i)) d (omega arith) ∙ ap (λ (j : ℕ). get_or xs j d) f
 
-pub ring_nth : {A : Type 0} (xs : List A) (i n m k : ℕ) (d : A) → length xs ≡ 32 → i < 32 → n ≤ 32 → m < n → k ≡ (i + m) % 32 → Some (get_or xs k d) ≡ nth (ring_of xs i n) m
+pub ring_get : {A : Type 0} (xs : List A) (i n m k : ℕ) (d : A) → length xs ≡ 32 → i < 32 → n ≤ 32 → m < n → k ≡ (i + m) % 32 → Some (get_or xs k d) ≡ slice_get (ring_of xs i n) m
 unfolding ring_of
-ring_nth {A = A} xs i n m k d l hi hn hm e =
+ring_get {A = A} xs i n m k d l hi hn hm e =
     let size : m < length (take n (round xs i)) = let r = length_round xs i (omega arith) in simp length-take (omega arith) in
     let same : get_or xs k d ≡ get_or (take n (round xs i)) m d = sym (get_or-take n (round xs i) m d hm ∙ round_read xs i m k d l hi (omega arith) e) in
-    ap (λ (b : A). Some b) same ∙ nth_get_or (take n (round xs i)) m d size
+    ap (λ (b : A). Some b) same ∙ sym (slice_get-get_or (take n (round xs i)) m d size)

@@ -1,4 +1,3 @@
 pub mod Credit
-pub mod Nth
 pub mod Ring
 pub mod Store

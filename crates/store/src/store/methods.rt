@@ -1,6 +1,6 @@
 ghost use Rattle.net.specs.Heads.{head_of, tail_of};
-ghost use Rattle.store.specs.Nth.{nth};
 ghost use Rattle.store.specs.Store.{items};
+ghost use Rattle.std.specs.List.{slice_get};
 ghost use Rattle.std.specs.Prelude.{◌≡◌, ◌+◌, ◌%◌, ◌<◌, [], ◌∷◌, ◌++◌, length, if◌then◌else◌, nat_lt};
 
 use super::{SIZE, Store};
@@ -65,7 +65,7 @@ impl Store {
 
     // The block with i others before it, the oldest being first.
     pub fn get(&self, i: usize) -> Option<Block>
-        ensures { result ≡ nth (items self.now) i }
+        ensures { result ≡ slice_get (items self.now) i }
     {
         if usize::from(self.count) <= i {
             return None;
