@@ -1,6 +1,6 @@
 // What the programs print, line by line, as types that are shown: the lines of a hall that is laid, of rounds that are
 // played, and of a refusal, which names the fault's number, the offset of the thing that has it, the file, and the
-// cause. What each line of the first two holds is proved, byte by byte.
+// cause. Each line is proved, byte by byte, to be the one that specs/ describes.
 #![tactic(auto)]
 
 mod lay;

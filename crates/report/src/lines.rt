@@ -1,3 +1,6 @@
+ghost use Rattle.report.specs.Notices.{cause_words, file_word, notice_line};
+ghost use Rattle.std.specs.Prelude.{Some};
+
 use std::fmt;
 use wire::{Fault, Refusal};
 
@@ -7,6 +10,18 @@ pub enum Source {
     Cables,
     Script,
     Table,
+}
+
+impl fmt::Display for Source {
+    ghost output = { λ x. Some (file_word x) };
+
+    fn fmt<W: fmt::Write>(&self, f: &mut fmt::Formatter<W>) -> fmt::Result {
+        match self {
+            Source::Cables => write!(f, "cables"),
+            Source::Script => write!(f, "script"),
+            Source::Table => write!(f, "table"),
+        }
+    }
 }
 
 // A refusal as it is told: `refused <number> at byte <offset> of <file>: <cause>`.
@@ -20,6 +35,8 @@ pub struct Notice {
 struct Cause(Fault);
 
 impl fmt::Display for Cause {
+    ghost output = { λ x. Some (cause_words x.0) };
+
     fn fmt<W: fmt::Write>(&self, f: &mut fmt::Formatter<W>) -> fmt::Result {
         match self.0 {
             Fault::Kind(k) => write!(f, "unknown kind {k}"),
@@ -34,36 +51,26 @@ impl fmt::Display for Cause {
             Fault::LongPatience => write!(f, "a patience is above 2^40"),
             Fault::LongWait => write!(f, "a wait is above 2^40"),
             Fault::TooLong => write!(f, "a patience or a wait is above 2^40"),
-            other => later(other, f),
+            Fault::NoDoor(d) => write!(f, "door {d} is not there"),
+            Fault::NoPlace(p) => write!(f, "place {p} is not there"),
+            Fault::OldName(n) => write!(f, "name {n} is not above the last one"),
+            Fault::DoorFull(d) => write!(f, "more than 4096 blocks wait at door {d}"),
+            Fault::NoneMissing(e) => write!(f, "no place is missing at link {e}"),
+            Fault::NoLink(e) => write!(f, "link {e} is not there"),
+            Fault::NoChannel(c) => write!(f, "channel {c} is not there"),
+            Fault::TooManyChannels(n) => write!(f, "{n} channels, more than 320"),
+            Fault::TooManyPlaces(n) => write!(f, "{n} places, more than 64"),
         }
     }
 }
 
-// The causes that a script or a foreign table can have.
-fn later<W: fmt::Write>(fault: Fault, f: &mut fmt::Formatter<W>) -> fmt::Result {
-    match fault {
-        Fault::NoDoor(d) => write!(f, "door {d} is not there"),
-        Fault::NoPlace(p) => write!(f, "place {p} is not there"),
-        Fault::OldName(n) => write!(f, "name {n} is not above the last one"),
-        Fault::DoorFull(d) => write!(f, "more than 4096 blocks wait at door {d}"),
-        Fault::NoneMissing(e) => write!(f, "no place is missing at link {e}"),
-        Fault::NoLink(e) => write!(f, "link {e} is not there"),
-        Fault::NoChannel(c) => write!(f, "channel {c} is not there"),
-        Fault::TooManyChannels(n) => write!(f, "{n} channels, more than 320"),
-        Fault::TooManyPlaces(n) => write!(f, "{n} places, more than 64"),
-        _ => Ok(()),
-    }
-}
-
 impl fmt::Display for Notice {
+    ghost output = { λ x. Some (notice_line x.refusal x.source) };
+
     fn fmt<W: fmt::Write>(&self, f: &mut fmt::Formatter<W>) -> fmt::Result {
         let number = self.refusal.fault.number();
         let offset = self.refusal.offset;
-        let file = match self.source {
-            Source::Cables => "cables",
-            Source::Script => "script",
-            Source::Table => "table",
-        };
+        let file = self.source;
         let cause = Cause(self.refusal.fault);
         write!(f, "refused {number} at byte {offset} of {file}: {cause}")
     }
