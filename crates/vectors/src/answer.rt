@@ -1,4 +1,7 @@
 // What a program answers to its files: the status, the refusal, and a digest of what it prints.
+ghost use Rattle.std.specs.Prelude.{◌≡◌, IfOk};
+ghost use Rattle.vectors.specs.Answers.{Tells};
+
 use crate::fnv::Digest;
 use anyhow::anyhow;
 use std::fmt;
@@ -27,7 +30,9 @@ impl fmt::Display for Answer {
 
 impl Answer {
     // All was played, and this printed.
-    pub fn whole(status: u8, digest: Digest) -> Answer {
+    pub fn whole(status: u8, digest: Digest) -> Answer
+        ensures { (result.status ≡ status) × (result.fault ≡ 0) × (result.offset ≡ 0) × (result.digest ≡ digest) }
+    {
         Answer {
             status,
             fault: 0,
@@ -37,7 +42,9 @@ impl Answer {
     }
 
     // A file was refused, after this was printed.
-    pub fn refused(error: WireError, digest: Digest) -> anyhow::Result<Answer> {
+    pub fn refused(error: WireError, digest: Digest) -> anyhow::Result<Answer>
+        ensures { IfOk result (Tells error digest) }
+    {
         match error {
             WireError::Memory => Err(anyhow!("no memory")),
             WireError::Refused(refusal) => Ok(Answer {

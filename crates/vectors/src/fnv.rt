@@ -1,6 +1,6 @@
 // A digest of text that comes in pieces: FNV-1a of 64 bits.
-ghost use Rattle.std.specs.Prelude.{◌≡◌, ◌*◌, ◌%◌, ◌^◌, bit_xor};
-ghost use Rattle.vectors.specs.declared.fnv.Digest.{Digest};
+ghost use Rattle.std.specs.Prelude.{◌≡◌};
+ghost use Rattle.vectors.specs.Digests.{digested, stepped};
 
 const START: u64 = 0xcbf2_9ce4_8422_2325;
 
@@ -11,7 +11,7 @@ pub struct Digest(pub u64);
 
 // The digest after one byte more.
 fn step(hash: u64, byte: u8) -> u64
-    ensures { result ≡ (bit_xor hash byte * 0x100_0000_01b3) % 2 ^ 64 }
+    ensures { result ≡ stepped hash byte }
 {
     (hash ^ u64::from(byte)).wrapping_mul(PRIME)
 }
@@ -25,11 +25,14 @@ impl Digest {
     }
 
     // Of the text so far and a piece more.
-    pub fn after(self, piece: &str) -> Digest {
-        let mut hash = self.0;
-        for byte in piece.as_bytes() {
-            hash = step(hash, *byte);
-        }
-        Digest(hash)
+    pub fn after(self, piece: &str) -> Digest
+        ensures { result.0 ≡ digested self.0 piece.now }
+    {
+        Digest(
+            piece
+                .as_bytes()
+                .iter()
+                .fold(self.0, |hash, byte| step(hash, *byte)),
+        )
     }
 }
