@@ -1,7 +1,7 @@
 -- Worked cases as rows of one table: cables, and what the definitions make of them. Assumes nothing.
 use Rattle.std.specs.Prelude.{◌≡◌, ℕ, zero, suc, ◌+◌, Bool, true, false, not, ◌&&◌, List, [], ◌∷◌, map, ◌==◌}
 use Rattle.std.specs.List.{range_with_len, AllByRecursion}
-use Rattle.graph.specs.declared.Cable.{Cable}
+use Rattle.net.specs.declared.Cable.{Cable}
 use Rattle.net.specs.declared.Came.{Came}
 use Rattle.net.specs.declared.Entry.{Entry}
 use Rattle.net.specs.declared.Entry.TheVariants.{Here, Link}

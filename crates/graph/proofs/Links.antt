@@ -2,7 +2,7 @@
 use Rattle.std.proofs.Common.{◌≡◌, ℕ, zero, suc, ◌+◌, ◌-◌, ◌*◌, ◌%◌, ◌<◌, ◌≤◌, eqb, List, [], ◌∷◌, ◌++◌, length, get_or, take, sym, refl, ap, ◌∙◌, subst, ⊎_elim, arith}
 use Rattle.std.proofs.lemmas.Bool.{cases_eq, cases_lt, cond-true, cond-false, eq-eqb, ne_eqb}
 use Rattle.std.proofs.lemmas.List.{take_more, take_all}
-use Rattle.graph.specs.declared.Cable.{Cable}
+use Rattle.net.specs.declared.Cable.{Cable}
 use Rattle.graph.specs.Graph.{TwoWay, partner}
 use Rattle.graph.specs.Cables.{froms, tos, graph_of}
 use Rattle.graph.specs.Layers.{Ends, Linked}

@@ -1,6 +1,6 @@
 -- The links of a list of cables: cable k, which joins a and b, gives link 2k from a to b and link 2k + 1 from b to a. Assumes nothing.
 use Rattle.std.specs.Prelude.{ℕ, List, [], ◌∷◌}
-use Rattle.graph.specs.declared.Cable.{Cable}
+use Rattle.net.specs.declared.Cable.{Cable}
 use Rattle.graph.specs.Graph.{Graph, graph_by}
 
 -- where each link begins

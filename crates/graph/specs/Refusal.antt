@@ -1,6 +1,6 @@
 -- Which lists of cables are accepted, and why others are refused: sizes first, then cables in their order, then whether all are joined. Assumes nothing.
 use Rattle.std.specs.Prelude.{◌≡◌, ℕ, ◌<◌, ◌≤◌, ◌⊎◌, List, length, get_or, vec_items, slice_index_or}
-use Rattle.graph.specs.declared.Cable.{Cable}
+use Rattle.net.specs.declared.Cable.{Cable}
 use Rattle.graph.specs.declared.cabling.Cabling.{Cabling}
 use Rattle.graph.specs.declared.error.CableError.{CableError}
 use Rattle.graph.specs.declared.error.CableError.TheVariants.{Switches, Cables, NoSwitch, Loop, Lost, Memory}

@@ -19,11 +19,5 @@ mod sets;
 pub use cabling::Cabling;
 pub use error::{CableError, TreeError};
 pub use laws::{distance_is_shortest, root_is_central};
+pub use net::Cable;
 pub use sets::has;
-
-// A cable joins two switches.
-#[derive(Clone, Copy)]
-pub struct Cable {
-    pub a: u8,
-    pub b: u8,
-}

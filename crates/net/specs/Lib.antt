@@ -1,3 +1,4 @@
+pub mod Cables
 pub mod Heads
 pub mod Layout
 pub mod Net

@@ -6,6 +6,7 @@
 mod check;
 mod error;
 mod layout;
+pub mod limits;
 mod plan;
 mod planning;
 mod serving;
@@ -14,6 +15,13 @@ pub use error::PlanError;
 pub use layout::Layout;
 pub use plan::Plan;
 pub use serving::{OrderError, serving_order};
+
+// A cable joins two switches.
+#[derive(Clone, Copy)]
+pub struct Cable {
+    pub a: u8,
+    pub b: u8,
+}
 
 // A block (packet): the door (injection port of a switch) at which it was let in, the place (ejection port
 // of a switch) that it is for, and its name.

@@ -13,7 +13,7 @@ use Rattle.roads.specs.Numbers.{some}
 use Rattle.roads.proofs.Below.{least_is, some_from, some_one}
 use Rattle.roads.proofs.Roads.{one_so_short}
 use Rattle.graph.specs.Graph.{Graph}
-use Rattle.graph.specs.declared.Cable.{Cable}
+use Rattle.net.specs.declared.Cable.{Cable}
 use Rattle.graph.specs.Refusal.{Fine, Sound, Until, no_cable}
 use Rattle.graph.specs.Tree.{Joined, Lost, at, distance, plain}
 use Rattle.tree.specs.declared.planted.Tree.{Tree}
@@ -22,13 +22,14 @@ use Rattle.table.specs.Promised.{LaidOut, graph_in}
 use Rattle.table.proofs.Served.{laid_net}
 use Rattle.tree.proofs.Growing.{sound_in}
 use Rattle.waits.specs.Working.{Exceeds, Within, longest}
-use Rattle.wire.specs.declared.cables.Cable.{Cable as Read}
+use Rattle.net.specs.declared.Cable.{Cable as Read}
 use Rattle.wire.specs.declared.fault.Fault.TheVariants.{Apart, TooLong}
 use Rattle.wire.specs.declared.fault.Refusal.{Refusal}
 use Rattle.wire.specs.declared.fault.WireError.{WireError}
 use Rattle.wire.specs.declared.fault.WireError.TheVariants.{Refused, Memory}
 use Rattle.wire.specs.Faults.{refusal}
-use Rattle.wire.specs.Cables.{Cables, Joins, Proper, cables_read}
+use Rattle.net.specs.Cables.{Joins}
+use Rattle.wire.specs.Cables.{Cables, Proper, cables_read}
 use Rattle.wire.specs.Pairs.{Each}
 use Rattle.plan.specs.Halls.{taken, graph_for, judged, lost, hall_net, read_hall, then_judged, too_long}
 use Rattle.plan.specs.Built.{Drawn, Grown, Late, Refuses, Serving, Severed}

@@ -4,12 +4,12 @@ use Rattle.net.specs.Net.{Net, channels}
 use Rattle.machine.specs.Waits.{patience, wait}
 use Rattle.roads.specs.Numbers.{least, some}
 use Rattle.graph.specs.Graph.{Graph}
-use Rattle.graph.specs.declared.Cable.{Cable}
+use Rattle.net.specs.declared.Cable.{Cable}
 use Rattle.graph.specs.Cables.{graph_of}
 use Rattle.graph.specs.Tree.{distance, root}
 use Rattle.table.specs.Laid.{net_for}
 use Rattle.waits.specs.Working.{longest}
-use Rattle.wire.specs.declared.cables.Cable.{Cable as Read}
+use Rattle.net.specs.declared.Cable.{Cable as Read}
 use Rattle.wire.specs.declared.fault.Fault.TheVariants.{Apart, TooLong}
 use Rattle.wire.specs.declared.fault.Refusal.{Refusal}
 use Rattle.wire.specs.Faults.{refusal}

@@ -5,7 +5,7 @@ use Rattle.net.specs.declared.layout.Layout.{Layout}
 use Rattle.net.specs.declared.Came.{Came}
 use Rattle.net.specs.Layout.{net_of}
 use Rattle.machine.specs.Round.{Event, Orderly, after}
-use Rattle.graph.specs.declared.Cable.{Cable}
+use Rattle.net.specs.declared.Cable.{Cable}
 use Rattle.graph.specs.Graph.{Graph, graph_by}
 use Rattle.graph.specs.Cables.{graph_of}
 use Rattle.graph.specs.Refusal.{Fine, Refuses}

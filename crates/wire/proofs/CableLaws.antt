@@ -2,7 +2,7 @@
 use Rattle.std.proofs.Common.{◌≡◌, ℕ, ◌+◌, ◌-◌, ◌*◌, ◌/◌, ◌%◌, ◌<◌, ◌≤◌, eqb, ltb, leb, ◌⊎◌, List, ◌∷◌, length, get_or, take, drop, Some, None, Ok, Err, Option, Result, sym, refl, ap, ◌∙◌, subst, inl, inr, arith}
 use Rattle.std.proofs.lemmas.List.{get_or-take, drop-take, length-drop}
 use Rattle.std.proofs.lemmas.Bool.{cond_both, cond-true, cond-false, eqb-false, ltb-true, leb-true, lt-ltb, le-leb, ne_eqb, cases_lt}
-use Rattle.wire.specs.declared.cables.Cable.{Cable}
+use Rattle.net.specs.declared.Cable.{Cable}
 use Rattle.wire.specs.declared.cables.Head.{Head}
 use Rattle.wire.specs.declared.fault.Fault.{Fault}
 use Rattle.wire.specs.declared.fault.Fault.TheVariants.{Cut}
@@ -10,7 +10,8 @@ use Rattle.wire.specs.declared.fault.Refusal.{Refusal}
 use Rattle.wire.specs.Faults.{refusal}
 use Rattle.wire.specs.Pairs.{word, pairs, pair_bytes}
 use Rattle.wire.specs.Heads.{within, beginning, unless}
-use Rattle.wire.specs.Cables.{Cables, Joins, cable_by, head_by_bytes, head_of, with_cables, then_cables, cables_read, encode_cables}
+use Rattle.net.specs.Cables.{Joins}
+use Rattle.wire.specs.Cables.{Cables, cable_by, head_by_bytes, head_of, with_cables, then_cables, cables_read, encode_cables}
 use Rattle.wire.specs.Laws.{begin_of, CablesEncoded, CablesProper, CablesBack, CablesCut}
 use Rattle.wire.proofs.PairLaws.{wrong, each_at, each_drop, Filled, pairs_bytes, pairs_each, pairs_back, pairs_cut}
 use Rattle.wire.proofs.HeadLaws.{

@@ -1,6 +1,7 @@
 -- Lists of cables: the file 1, n, m, count (2), then two switches for each cable. Assumes nothing.
 use Rattle.std.specs.Prelude.{◌≡◌, ℕ, ◌/◌, ◌%◌, ◌<◌, ◌≤◌, cond, List, ◌∷◌, length, drop, Ok, Err, vec_items, Result, ◌==◌, nat_le, nat_lt, slice_index}
-use Rattle.wire.specs.declared.cables.Cable.{Cable}
+use Rattle.net.specs.Cables.{Joins}
+use Rattle.net.specs.declared.Cable.{Cable}
 use Rattle.wire.specs.declared.cables.CableList.{CableList}
 use Rattle.wire.specs.declared.cables.Head.{Head}
 use Rattle.wire.specs.declared.fault.Fault.{Fault}
@@ -59,12 +60,6 @@ abbrev pub encode_cables : Cables → List ℕ
 encode_cables c =
     1 ∷ c.switches ∷ c.room ∷ length c.cables / 256 ∷ length c.cables % 256
     ∷ pair_bytes (λ x. x.a) (λ x. x.b) c.cables
-
--- a cable joins two switches
-pub record Joins (n : ℕ) (c : Cable) : Type 0 where
-  pub from : c.a < n
-  pub to : c.b < n
-  pub apart : c.a ≡ c.b → ⊥
 
 -- a list that can be written
 pub record Proper (c : Cables) : Type 0 where

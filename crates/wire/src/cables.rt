@@ -5,14 +5,8 @@ ghost use Rattle.wire.specs.Cables.{Proper, cable_by, head_by_bytes, head_of, li
 
 use crate::fault::{Fault, Refusal, WireError};
 use crate::head::{beginning, within, word_of};
+use net::Cable;
 use std::alloc::Global;
-
-// A cable between two switches.
-#[derive(Clone, Copy)]
-pub struct Cable {
-    pub a: u8,
-    pub b: u8,
-}
 
 // How many switches there are, how many blocks a store has room for, and the cables.
 #[derive(Drop)]

@@ -12,8 +12,9 @@ mod laws;
 mod script;
 mod table;
 
-pub use cables::{Cable, CableList, read_cables};
+pub use cables::{CableList, read_cables};
 pub use fault::{Fault, Refusal, WireError};
+pub use net::Cable;
 pub use laws::{
     cable_lowest, cables_cut, cables_encoded, cables_proper, cables_read_back, frame_lowest,
     head_lowest, table_cut, table_encoded, table_read_back, table_shaped, thing_cut, thing_encoded,

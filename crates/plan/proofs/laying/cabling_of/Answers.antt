@@ -1,9 +1,9 @@
 use Rattle.std.proofs.Common.{◌≡◌, List, map, vec_items, sym, ap, ◌∙◌, subst}
-use Rattle.graph.specs.declared.Cable.{Cable}
+use Rattle.net.specs.declared.Cable.{Cable}
 use Rattle.graph.specs.declared.error.CableError.{CableError}
 use Rattle.graph.specs.Refusal.{Fine, Refuses}
 use Rattle.wire.specs.Cables.{listed}
-use Rattle.wire.specs.declared.cables.Cable.{Cable as Read}
+use Rattle.net.specs.declared.Cable.{Cable as Read}
 use Rattle.plan.specs.Halls.{taken}
 use Rattle.plan.proofs.Accepted.{fine, no_stray, no_loop}
 use Rattle.plan.proofs.laying.cabling_of.Goals as goal

@@ -2,7 +2,7 @@
 use Rattle.std.proofs.Common.{◌+◌, List, [], ◌∷◌, vec_items, sym, refl, subst, arith}
 use Rattle.std.proofs.lemmas.Slice.{pushed}
 use Rattle.std.proofs.lemmas.Result.{err_from_is_err_and}
-use Rattle.wire.specs.declared.cables.Cable.{Cable}
+use Rattle.net.specs.declared.Cable.{Cable}
 use Rattle.wire.specs.Cables.{cable_by}
 use Rattle.wire.proofs.Rows.{Reading, reading_more, reading_stops, reading_all, reading_extra}
 use Rattle.wire.proofs.cables.cables_from.Goals as goal
