@@ -76,6 +76,28 @@ def travelling():
     tell("5 groups of three parameters that three or more functions of a crate take", found)
 
 
+KEYWORDS = set("fn let mut match if else for in return while loop break continue pub impl struct enum use self Some None Ok Err as true false".split())
+
+
+def shape(text):
+    """A function's code with each name and number but the language's own replaced by a sign."""
+    text = re.sub(r"//[^\n]*", "", text)
+    text = re.sub(r"\n\s*(requires|ensures)[^\n]*", "", text)
+    words = re.findall(r"[A-Za-z_]\w*|\d\w*|[^\sA-Za-z0-9_]", text)
+    return " ".join(w if w in KEYWORDS or not re.match(r"\w", w) else "x" for w in words)
+
+
+def twins():
+    groups = collections.defaultdict(list)
+    for path, text in SOURCES:
+        for match in re.finditer(r"^( *)(?:pub(?:\(crate\))? )?fn (\w+)(.*?)^\1\{(.*?)^\1\}$", text, re.M | re.S):
+            body = shape(match.group(4))
+            if match.group(2) != "fmt" and len(body.split()) >= 12:
+                groups[body].append(f"{path}:{match.group(2)}")
+    found = [", ".join(g) for g in groups.values() if len(g) > 1]
+    tell("2 groups of functions whose code has one shape", found)
+
+
 def facts():
     count = collections.Counter()
     for path, text in SOURCES:
@@ -100,6 +122,7 @@ lines("1 a change that answers with bool", r"fn .*&mut .*-> bool")
 lines("1 an index or number that also says none (read each)", r"fn .*-> usize$", r"^\) -> usize$")
 lines("1 Result<bool>", r"Result<bool>")
 lines("1 numbers for kinds", r"const (KIND|BLOCK|WORD|ROUND|SHOW)\b", r"\bhalf: u8", r"^\s+(status|fault): u8,")
+twins()
 lines("3 for over a range", r"for \w+ in [^{]*\.\.")
 lines("3 while", r"^\s*('\w+: )?while ")
 lines("4 functions that compare, copy, convert or print by hand (read each)", r"fn (same|word_of|name_of|taken|clear|marked|chosen|if_met|spent|gained|front_of|ring_line|rank_lines|at_end|patience)\b")
@@ -108,3 +131,7 @@ facts()
 lines("6 arrays of a fixed size", r"\[0u\d+; \d+\]", r": \[\w+; ")
 lines("6 an index worked out by hand", r"\w+ \* \w+(\.\w+)* \+ \w+")
 lines("7 a number or word that says which step", r"half == 0", r'^\s+"\w+" => ')
+
+
+answers = [l for path in sorted(glob.glob(os.path.join(ROOT, "crates/*/proofs/**/Answers.antt"), recursive=True)) for l in open(path) if ": goal." in l]
+print(f"{len(answers):4} 8 answers to goals in proofs/")
