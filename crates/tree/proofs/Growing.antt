@@ -6,7 +6,7 @@ use Rattle.graph.specs.Tree.{level}
 use Rattle.graph.specs.Layers.{Ends}
 use Rattle.graph.specs.Refusal.{Levels}
 use Rattle.tree.specs.Laws.{Sound}
-use Rattle.tree.specs.Planted.{level_by, up_list, rank_list, ranks_by}
+use Rattle.tree.specs.Listed.{level_by, up_list, rank_list, ranks_by}
 use Rattle.tree.proofs.Listed.{ups_are, ranks_are, length_ups}
 
 abbrev pub graph_in : Cabling → Graph

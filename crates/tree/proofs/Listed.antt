@@ -6,7 +6,7 @@ use Rattle.std.proofs.lemmas.Nat.{mul-le}
 use Rattle.graph.specs.Graph.{Graph, graph_by}
 use Rattle.graph.specs.Layers.{Ends}
 use Rattle.tree.specs.Legal.{goes_up, rank_of}
-use Rattle.tree.specs.Planted.{level_by, up_list, rank_list, rank_by, ranks_by}
+use Rattle.tree.specs.Listed.{level_by, up_list, rank_list, rank_by, ranks_by}
 
 pub none_of : {X : Type 0} (f : ℕ → X) → [] ≡ map f (range_with_len 0 0)
 none_of f = refl

@@ -1,7 +1,7 @@
 ghost use Rattle.std.specs.Prelude.{◌≡◌, ℕ, ◌<◌, slice_index};
 ghost use Rattle.graph.specs.Graph.{graph_by};
 ghost use Rattle.graph.specs.Tree.{level};
-ghost use Rattle.tree.specs.Planted.{rank_list, up_list};
+ghost use Rattle.tree.specs.Listed.{rank_list, up_list};
 
 use graph::Cabling;
 

@@ -3,7 +3,7 @@ ghost use Rattle.graph.specs.Graph.{graph_by};
 ghost use Rattle.graph.specs.Layers.{Ends};
 ghost use Rattle.std.specs.List.{range_with_len};
 ghost use Rattle.tree.specs.Legal.{above as «above-spec»};
-ghost use Rattle.tree.specs.Planted.{level_by, rank_by, ranks_by, up_by, up_list};
+ghost use Rattle.tree.specs.Listed.{level_by, rank_by, ranks_by, up_by, up_list};
 
 use std::alloc::{AllocError, Global};
 

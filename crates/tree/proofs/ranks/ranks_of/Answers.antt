@@ -1,5 +1,5 @@
 use Rattle.std.proofs.Common.{ℕ, false, length, get_or, vec_items, arith}
-use Rattle.tree.specs.Planted.{rank_by}
+use Rattle.tree.specs.Listed.{rank_by}
 use Rattle.tree.proofs.Listed.{more_of, all_of}
 use Rattle.tree.proofs.ranks.ranks_of.Goals as goal
 

@@ -1,6 +1,6 @@
 use Rattle.std.proofs.Common.{◌≡◌, false, map, length, get_or, vec_items}
 use Rattle.std.specs.List.{range_with_len}
-use Rattle.tree.specs.Planted.{rank_by}
+use Rattle.tree.specs.Listed.{rank_by}
 use Rattle.tree.proofs.ranks.ranks_of.Given as goal
 
 abbrev pub invariant-loop-k : goal.invariant-loop-k

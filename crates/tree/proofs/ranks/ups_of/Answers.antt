@@ -1,7 +1,7 @@
 use Rattle.std.proofs.Common.{length, vec_items, arith}
 use Rattle.graph.specs.Graph.{graph_by}
 use Rattle.tree.specs.Legal.{goes_up}
-use Rattle.tree.specs.Planted.{level_by}
+use Rattle.tree.specs.Listed.{level_by}
 use Rattle.tree.proofs.Listed.{more_of, all_of}
 use Rattle.tree.proofs.ranks.ups_of.Goals as goal
 

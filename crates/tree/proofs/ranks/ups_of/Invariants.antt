@@ -2,7 +2,7 @@ use Rattle.std.proofs.Common.{◌≡◌, map, length, vec_items}
 use Rattle.std.specs.List.{range_with_len}
 use Rattle.graph.specs.Graph.{graph_by}
 use Rattle.tree.specs.Legal.{goes_up}
-use Rattle.tree.specs.Planted.{level_by}
+use Rattle.tree.specs.Listed.{level_by}
 use Rattle.tree.proofs.ranks.ups_of.Given as goal
 
 abbrev pub invariant-loop-k : goal.invariant-loop-k

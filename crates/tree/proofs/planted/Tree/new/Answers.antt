@@ -1,6 +1,6 @@
 use Rattle.std.proofs.Common.{◌≡◌, length, vec_items, ap, ◌∙◌, arith}
 use Rattle.graph.specs.Tree.{level}
-use Rattle.tree.specs.Planted.{up_list}
+use Rattle.tree.specs.Listed.{up_list}
 use Rattle.tree.proofs.Growing.{graph_in, ends_by, ups_in, ranks_in, low_in, there_in, same_in}
 use Rattle.tree.proofs.planted.Tree.new.Goals as goal
 
