@@ -1,6 +1,7 @@
-ghost use Rattle.std.specs.Prelude.{◌≡◌, ◌<◌, ◌≤◌, not};
+ghost use Rattle.std.specs.Prelude.{◌≡◌, ◌<◌, ◌≤◌, find, not};
+ghost use Rattle.std.specs.List.{range_with_len};
 ghost use Rattle.graph.specs.Sets.{has as «has-spec»};
-ghost use Rattle.roads.specs.Numbers.{Least, every};
+ghost use Rattle.roads.specs.Numbers.{every};
 
 // Whether the set has k.
 pub fn has(set: u64, k: usize) -> bool
@@ -19,14 +20,9 @@ pub(crate) fn full(set: u64, n: usize) -> bool
     set & all == all
 }
 
-// The lowest number that the set lacks, or n.
-pub(crate) fn lowest_missing(set: u64, n: usize) -> usize
-    ensures { Least (λ k. not («has-spec» set k)) n result }
+// The lowest number below n that the set lacks.
+pub(crate) fn lowest_missing(set: u64, n: usize) -> Option<usize>
+    ensures { result ≡ find (λ k. not («has-spec» set k)) (range_with_len 0 n) }
 {
-    for k in 0..n {
-        if !has(set, k) {
-            return k;
-        }
-    }
-    n
+    (0..n).find(|&k| !has(set, k))
 }

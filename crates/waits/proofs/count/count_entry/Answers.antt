@@ -11,7 +11,7 @@ count_once-requires c =
     let l : c.in-Link.e < m.layout.links = plan_link m c.args.c c.args.p c.in-Link.e (sym c.in-Link.ensures) in
     let s = k.slots in
     let t = k.same in
-    let f = m.few in
+    let f = m.sized.few in
     let n = count_small (net_of m.layout) c.args.c c.args.p c.args.counts.now c.args.marks.now k c.in-Link.e l in
     record { e_in_bounds = (omega arith, omega arith); e_bound = omega arith }
 

@@ -20,12 +20,12 @@ full_store-sum-requires c =
     let d : c.in-Link.e < channels (net_of m.layout) = omega arith in
     let r = c.requires.1.right c.in-Link.e d in
     let s = c.requires.1.short c.in-Link.e d in
-    (m.some, (m.most, omega arith))
+    (m.sized.some, (m.sized.most, omega arith))
 
 pub overflow_add-sum : goal.overflow_add-sum
 overflow_add-sum c =
     let k = c.full_store-sum.ensures.small in
-    let f = c.args.plan.now.few in
+    let f = c.args.plan.now.sized.few in
     let v = c.loop-e.invariant.small in
     omega arith
 
@@ -44,7 +44,7 @@ loop-e-preserved c =
     let d : c.in-Link.e < channels z = omega arith in
     let r = c.requires.1.right c.in-Link.e d in
     let s = c.requires.1.short c.in-Link.e d in
-    let k = walk_step z (plan_good m) m.most c.args.c c.args.p c.loop-e.at c.in-Link.e c.loop-e.sum
+    let k = walk_step z (plan_good m) m.sized.most c.args.c c.args.p c.loop-e.at c.in-Link.e c.loop-e.sum
     (get_or c.args.found.now c.in-Link.e 0) q r (omega arith) c.loop-e.invariant in
     subst (λ (x : ℕ). Walked z c.args.c c.args.p c.in-Link.e (c.loop-e.sum + x)) (sym c.full_store-sum.ensures.is) k
 
@@ -55,5 +55,5 @@ returns c =
     (told m c.loop-e.at c.args.p Here c.in_default.ensures) in
     let v = c.loop-e.invariant.left in
     let u = c.loop-e.invariant.small in
-    let f = m.few in
+    let f = m.sized.few in
     record { is = omega arith; small = omega arith }
