@@ -1,7 +1,7 @@
 ghost use Rattle.net.specs.Heads.{head_of, tail_of};
 ghost use Rattle.store.specs.Store.{items};
 ghost use Rattle.std.specs.List.{slice_get};
-ghost use Rattle.std.specs.Prelude.{◌≡◌, ◌+◌, ◌%◌, ◌<◌, [], ◌∷◌, ◌++◌, length, if◌then◌else◌, nat_lt};
+ghost use Rattle.std.specs.Prelude.{◌≡◌, ◌+◌, ◌%◌, ◌<◌, [], ◌∷◌, ◌++◌, length, is_ok, IfErr, if◌then◌else◌, nat_lt};
 
 use super::{SIZE, Store};
 use net::Block;
@@ -25,18 +25,19 @@ impl Store {
         }
     }
 
-    // Takes a block in behind the others, or refuses it where no place is free.
-    pub fn push(&mut self, b: Block) -> bool
-        ensures taken { result ≡ nat_lt (length (items self.old)) 32 }
-        ensures after { items self.new ≡ (if result then items self.old ++ (b ∷ []) else items self.old) }
+    // Takes a block in behind the others, or hands it back where no place is free.
+    pub fn push(&mut self, b: Block) -> Result<(), Block>
+        ensures taken { is_ok result ≡ nat_lt (length (items self.old)) 32 }
+        ensures after { items self.new ≡ (if is_ok result then items self.old ++ (b ∷ []) else items self.old) }
+        ensures value_returned { IfErr result (λ x. x ≡ b) }
     {
         if self.count == SIZE {
-            return false;
+            return Err(b);
         }
         let free = (self.first + self.count) % SIZE;
         self.blocks[free as usize] = b;
         self.count += 1;
-        true
+        Ok(())
     }
 
     // Takes the oldest block out.
