@@ -1,7 +1,5 @@
-pub mod Halves
-pub mod Kept
 pub mod Places
-pub mod Sending
-pub mod Sizes
 pub mod States
+pub mod Halves
+pub mod Sending
 pub mod Stays

@@ -1,3 +1,2 @@
 pub mod Fabric
-pub mod Refused
-pub mod Running
+pub mod Link

@@ -2,18 +2,12 @@
 #![tactic(auto)]
 
 mod channel;
-mod credits;
 mod error;
 mod fabric;
 mod hand;
+mod link;
 mod look;
 mod make;
-mod methods;
-mod play;
-mod running;
 mod serve;
-mod views;
 
 pub use error::Refusal;
-pub use running::Running;
-pub use views::LinkView;
