@@ -3,3 +3,5 @@ pub mod States
 pub mod Halves
 pub mod Sending
 pub mod Stays
+pub mod Starts
+pub mod Kept

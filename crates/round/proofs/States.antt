@@ -12,10 +12,10 @@ use Rattle.round.specs.Link.{queue_of, free_of, turn_of}
 use Rattle.round.specs.declared.link.Link.{Link}
 use Rattle.round.proofs.Places.{at_set, at_here, behind_set, front_read, behind_read, mapped_read}
 
-abbrev made : (ℕ → List Block) → (ℕ → ℕ) → (ℕ → ℕ) → List Came → ℕ → State
+abbrev pub made : (ℕ → List Block) → (ℕ → ℕ) → (ℕ → ℕ) → List Came → ℕ → State
 made q f t c r = record { queue = q; free = f; turn = t; came = c; round = r }
 
-same_made : (q p : ℕ → List Block) (f g t u : ℕ → ℕ) (cs : List Came) (n : ℕ) → q ≡ p → f ≡ g → t ≡ u → made q f t cs n ≡ made p g u cs n
+pub same_made : (q p : ℕ → List Block) (f g t u : ℕ → ℕ) (cs : List Came) (n : ℕ) → q ≡ p → f ≡ g → t ≡ u → made q f t cs n ≡ made p g u cs n
 same_made q p f g t u cs n a b c = cc
 
 -- where there is no first block, nothing stands behind it

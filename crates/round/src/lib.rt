@@ -8,6 +8,12 @@ mod hand;
 mod link;
 mod look;
 mod make;
+mod methods;
+mod play;
+mod running;
 mod serve;
+mod views;
 
 pub use error::Refusal;
+pub use running::Running;
+pub use views::LinkView;
