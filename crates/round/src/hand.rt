@@ -1,6 +1,6 @@
 ghost use Rattle.std.specs.Prelude.{◌≡◌, ◌+◌, ◌<◌, ◌≤◌, vec_len, vec_capacity};
 ghost use Rattle.machine.specs.Round.{all_handed, handed_over};
-ghost use Rattle.net.specs.Net.{channels as channels_of};
+ghost use Rattle.net.specs.Net.{channels};
 ghost use Rattle.round.specs.Fabric.{net_at, state_of};
 
 use crate::fabric::Fabric;
@@ -9,7 +9,7 @@ use net::{Came, Entry};
 impl Fabric {
     // Channel c hands over its first block if the table says here.
     fn hand_over(&mut self, c: usize)
-        requires within { c < channels_of (net_at self.old) }
+        requires within { c < channels (net_at self.old) }
         requires room { vec_len self.old.came < vec_capacity self.old.came }
         ensures after { state_of self.new ≡ handed_over (net_at self.old) c (state_of self.old) }
         ensures plan { self.new.plan ≡ self.old.plan }
@@ -34,8 +34,8 @@ impl Fabric {
 
     // Each channel, in rising number, hands over its first block if the table says here.
     pub(crate) fn hand_all(&mut self)
-        requires room { vec_len self.old.came + channels_of (net_at self.old) ≤ vec_capacity self.old.came }
-        ensures after { state_of self.new ≡ all_handed (net_at self.old) (channels_of (net_at self.old)) (state_of self.old) }
+        requires room { vec_len self.old.came + channels (net_at self.old) ≤ vec_capacity self.old.came }
+        ensures after { state_of self.new ≡ all_handed (net_at self.old) (channels (net_at self.old)) (state_of self.old) }
         ensures plan { self.new.plan ≡ self.old.plan }
     {
         for c in 0..self.channels() {

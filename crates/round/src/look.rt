@@ -1,6 +1,6 @@
 ghost use Rattle.std.specs.Prelude.{◌≡◌, ◌<◌};
-ghost use Rattle.machine.specs.Round.{look as look_of, wants as wants_of};
-ghost use Rattle.net.specs.Net.{channels as channels_of};
+ghost use Rattle.machine.specs.Round.{look, wants};
+ghost use Rattle.net.specs.Net.{channels};
 ghost use Rattle.round.specs.Fabric.{net_at, state_of};
 
 use crate::fabric::Fabric;
@@ -9,7 +9,7 @@ use net::Entry;
 impl Fabric {
     // The first block of channel c wants to go to link e.
     fn wants(&self, e: usize, c: usize) -> bool
-        ensures { result ≡ wants_of (net_at self.now) e c ((state_of self.now).queue c) }
+        ensures { result ≡ wants (net_at self.now) e c ((state_of self.now).queue c) }
     {
         let Some(block) = self.first(c) else {
             return false;
@@ -24,7 +24,7 @@ impl Fabric {
     // last.
     pub(crate) fn look(&self, e: usize) -> Option<usize>
         requires { e < (net_at self.now).links }
-        ensures { result ≡ look_of (net_at self.now) e (state_of self.now).queue ((state_of self.now).turn e) (channels_of (net_at self.now)) }
+        ensures { result ≡ look (net_at self.now) e (state_of self.now).queue ((state_of self.now).turn e) (channels (net_at self.now)) }
     {
         let turn = self.links[e].turn as usize;
         let mut found = None;

@@ -1,5 +1,5 @@
 ghost use Rattle.std.specs.Prelude.{◌≡◌, ◌+◌, ◌<◌, if◌then◌else◌, nat_lt};
-ghost use Rattle.machine.specs.Round.{serve as serve_of, all_served};
+ghost use Rattle.machine.specs.Round.{serve, all_served};
 ghost use Rattle.net.specs.Order.{serving};
 ghost use Rattle.round.specs.Fabric.{net_at, state_of};
 
@@ -17,7 +17,7 @@ impl Fabric {
     // Link e takes one block if its credits say that there is a place.
     fn serve(&mut self, e: usize)
         requires { e < (net_at self.old).links }
-        ensures after { state_of self.new ≡ serve_of (net_at self.old) e (state_of self.old) }
+        ensures after { state_of self.new ≡ serve (net_at self.old) e (state_of self.old) }
         ensures plan { self.new.plan ≡ self.old.plan }
     {
         if !self.links[e].has_credit() {
