@@ -56,7 +56,7 @@ module _ (z : Net) (e : ℕ) (q : ℕ → List Block) where
 
   -- c stands in half i
   abbrev half : ℕ → ℕ → ℕ → ℕ × ℕ
-  half t n i = get_or ((t , n) ∷ (0 , t) ∷ []) i (0 , 0)
+  half t n i = get_or ((t, n) ∷ (0, t) ∷ []) i (0, 0)
 
   pub in_half : (t n c i : ℕ) → n ≡ channels z → t < n → (half t n i).0 ≤ c → c < (half t n i).1 →
       Quiet z e q (half t n i).0 c → (0 < i → Quiet z e q t (channels z)) → wants z e c (q c) ≡ true → look z e q t (channels z) ≡ Some c

@@ -1,12 +1,12 @@
 -- A state whose parts stand in lists: what writes to the lists do to it. Assumes nothing.
-use Rattle.std.proofs.Common.{◌≡◌, ℕ, pred, ◌+◌, ◌-◌, ◌<◌, ◌≤◌, cond, ltb, List, [], ◌∷◌, ◌++◌, map, length, get_or, set, drop, Some, None, Option, MatchOption, option_to_list, sym, refl, ap, ◌∙◌, arith}
+use Rattle.std.proofs.Common.{◌≡◌, ℕ, pred, ◌+◌, ◌<◌, ltb, List, [], ◌∷◌, ◌++◌, map, length, get_or, set, drop, Some, None, Option, MatchOption, option_to_list, sym, refl, ap, ◌∙◌, arith}
 use Rattle.std.proofs.lemmas.List.{length-append, length-map, map-set, set-append_left}
 use Rattle.std.proofs.lemmas.Bool.{cond-true, cond-false, lt-ltb, le-ltb}
 use Rattle.net.specs.declared.Block.{Block}
 use Rattle.net.specs.declared.Came.{Came}
 use Rattle.net.specs.Heads.{head_of, tail_of}
 use Rattle.net.specs.Net.{Net}
-use Rattle.machine.specs.Round.{State, at, enter, following, leave}
+use Rattle.machine.specs.Round.{State, at, enter, following}
 use Rattle.round.specs.Fabric.{listed, leaves, arrives}
 use Rattle.round.specs.Link.{queue_of, free_of, turn_of}
 use Rattle.round.specs.declared.link.Link.{Link}

@@ -1,4 +1,4 @@
-use Rattle.std.proofs.Common.{◌≡◌, ℕ, ◌+◌, ◌<◌, List, [], map, length, get_or, replicate, vec_items, deque_items, refl, ap, ◌∙◌, arith, rules}
+use Rattle.std.proofs.Common.{◌≡◌, ℕ, List, [], map, length, get_or, replicate, vec_items, deque_items, refl, ap, ◌∙◌, arith, rules}
 use Rattle.std.proofs.lemmas.Iterator.{YieldsList-from_range, YieldsList-from_map_by, items_from_drains}
 use Rattle.std.proofs.lemmas.List.{get_or-replicate, length-map, length-replicate}
 use Rattle.net.specs.declared.Block.{Block}
@@ -60,6 +60,8 @@ invariant_of-result c =
     }
 
 pub returns : goal.returns
-returns c =
-    (refl, new_state (net_of c.args.plan.layout) (vec_items c.in_ok-links.links) (map deque_items (vec_items c.in_ok-doors.doors)) (vec_items c.new.result)
-    (queues c.before) (frees c.before) (turns c.before) (doors c.before) c.new.ensures.items)
+returns c = (
+  refl,
+  new_state (net_of c.args.plan.layout) (vec_items c.in_ok-links.links) (map deque_items (vec_items c.in_ok-doors.doors)) (vec_items c.new.result)
+      (queues c.before) (frees c.before) (turns c.before) (doors c.before) c.new.ensures.items,
+)

@@ -1,8 +1,6 @@
-use Rattle.std.proofs.Common.{◌≡◌, ◌+◌, ◌<◌, length, vec_items, sym, refl, ◌∙◌, arith}
+use Rattle.std.proofs.Common.{vec_items, sym, refl, ◌∙◌, arith}
 use Rattle.net.specs.Net.{channels}
 use Rattle.round.specs.Fabric.{net_at, state_of, waiting}
-use Rattle.round.specs.declared.fabric.Fabric.{Fabric}
-use Rattle.round.specs.declared.link.Link.{Link}
 use Rattle.round.proofs.Halves.{in_half, no_half}
 use Rattle.round.proofs.States.{turn_read}
 use Rattle.round.proofs.fabric.Fabric.look.Goals as goal

@@ -1,10 +1,10 @@
-use Rattle.std.proofs.Common.{◌≡◌, ◌+◌, ◌-◌, ◌<◌, ◌≤◌, List, [], map, length, vec_items, deque_items, sym, ap, ◌∙◌, arith}
+use Rattle.std.proofs.Common.{◌+◌, ◌-◌, ◌<◌, List, [], length, vec_items, deque_items, sym, ap, ◌∙◌, arith}
 use Rattle.std.proofs.lemmas.List.{length-map, map-set}
 use Rattle.net.specs.declared.Block.{Block}
 use Rattle.round.specs.Fabric.{listed, net_at, waiting}
 use Rattle.round.specs.Link.{turn_of}
 use Rattle.round.proofs.Places.{below_set, mapped_read}
-use Rattle.round.proofs.States.{link_left, turn_read, door_left}
+use Rattle.round.proofs.States.{link_left, door_left}
 use Rattle.round.proofs.fabric.Fabric.take.Goals as goal
 
 pub invariant_of-self : goal.invariant_of-self

@@ -1,4 +1,3 @@
-use Rattle.std.proofs.Common.{refl}
 use Rattle.round.specs.Fabric.{net_at, state_of}
 use Rattle.round.proofs.Kept.{kept, at_start}
 use Rattle.round.proofs.running.Running.start.Goals as goal

@@ -1,7 +1,6 @@
-use Rattle.std.proofs.Common.{◌≡◌, ℕ, ◌+◌, ◌<◌, ltb, List, [], Some, None, Option, map, length, get_or, vec_items, deque_items, sym, refl, ap, ◌∙◌, arith}
+use Rattle.std.proofs.Common.{◌≡◌, ℕ, ◌+◌, ◌<◌, ltb, [], Some, None, length, get_or, vec_items, deque_items, sym, refl, ap, ◌∙◌, arith}
 use Rattle.std.proofs.lemmas.Bool.{cond-true, lt-ltb}
 use Rattle.std.proofs.lemmas.List.{length-map}
-use Rattle.net.specs.declared.Block.{Block}
 use Rattle.round.specs.Fabric.{net_at, state_of, waiting}
 use Rattle.round.proofs.Places.{mapped_read}
 use Rattle.round.proofs.States.{door_read}
