@@ -1,7 +1,7 @@
 -- The texts that programs print, as lists of bytes. Assumes nothing.
 use Rattle.std.specs.Iterator.{Drains}
 use Rattle.std.specs.List.{flat_map}
-use Rattle.std.specs.Prelude.{◌≡◌, ℕ, zero, suc, List, [], ◌∷◌, ◌++◌, vec_items, codes, decimal, Option, Some, None, IsSome, unwrap_or}
+use Rattle.std.specs.Prelude.{◌≡◌, ℕ, zero, suc, List, [], ◌∷◌, ◌++◌, vec_items, codes, decimal, Option, IsSome, unwrap_or}
 use Rattle.ring.specs.declared.told.Verdict.{Verdict}
 use Rattle.ring.specs.declared.told.Verdict.TheVariants.{Ring, Ranks}
 use Rattle.report.specs.Lines.{rank_line}

@@ -37,7 +37,10 @@ fn head(text: &mut String, hall: &Hall) -> Result<(), AllocError>
     let levels = hall.tree.levels.iter().enumerate();
     write_each(
         text,
-        levels.map(|(switch, level)| Line(LevelLine { switch, level: *level })),
+        levels.map(|(switch, level)| Line(LevelLine {
+            switch,
+            level: *level,
+        })),
     )
 }
 
@@ -125,8 +128,7 @@ fn along(text: &mut String, hall: &Hall, road: &[u16]) -> Result<(), AllocError>
     let ends = hall.bounds.plan.layout.ends.as_slice();
     write_each(
         text,
-        road.iter()
-            .map(|link| Spaced(ends.get(*link as usize).copied().unwrap_or(0))),
+        road.iter().map(|link| Spaced(ends.get(*link as usize).copied().unwrap_or(0))),
     )?;
     write!(text, " links")?;
     if road.is_empty() {

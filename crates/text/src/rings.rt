@@ -33,7 +33,10 @@ fn ranks_text(heap: Global, ranks: &[u16]) -> Result<String, AllocError>
     let ranks = ranks.iter().enumerate();
     write_each(
         &mut text,
-        ranks.map(|(channel, rank)| Line(RankLine { channel, rank: *rank })),
+        ranks.map(|(channel, rank)| Line(RankLine {
+            channel,
+            rank: *rank,
+        })),
     )?;
     Ok(text)
 }

@@ -107,7 +107,9 @@ impl Account {
         let came = running.came();
         write_each(
             &mut self.text,
-            came.iter().skip(self.told).map(|came| Line(CameLine(*came))),
+            came.iter()
+                .skip(self.told)
+                .map(|came| Line(CameLine(*came))),
         )?;
         self.told = came.len();
         Ok(())
