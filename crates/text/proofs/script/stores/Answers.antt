@@ -5,7 +5,7 @@ use Rattle.text.specs.Plays.{store_one, store_text}
 use Rattle.text.proofs.Eachs.{below_ends, below_starts, below_grows}
 use Rattle.net.specs.declared.plan.Plan.{Plan}
 use Rattle.store.specs.Store.{items}
-use Rattle.round.specs.Running.{state_in}
+use Rattle.round.specs.Running.{net_in, state_in}
 use Rattle.net.specs.declared.Block.{Block}
 
 store_same : (e a a' b b' : ℕ) (bs bs' : List Block) → a ≡ a' → b ≡ b' → bs ≡ bs' → store_text e a b bs ≡ store_text e a' b' bs'
@@ -20,7 +20,7 @@ loop-e-preserved c =
     let g = c.args.running.now in
     let s = string_bytes c.loop-e.text in
     let e = c.loop-e.e in
-    let l : c.plan.result.now.layout.links ≡ g.plan.layout.links = ap (λ (p : Plan). p.layout.links) c.plan.ensures in
+    let l : c.plan.result.now.layout.links ≡ (net_in g).links = ap (λ (p : Plan). p.layout.links) c.plan.ensures in
     elim c.match-link.branch [
       | in-Some+in_ok-store w ↦
           let v = w.in-Some.link in
@@ -33,5 +33,5 @@ loop-e-preserved c =
 
 pub returns : goal.returns
 returns c =
-    let l : c.plan.result.now.layout.links ≡ c.args.running.now.plan.layout.links = ap (λ (p : Plan). p.layout.links) c.plan.ensures in
-    below_ends (store_one c.args.running.now) (string_bytes c.args.text.now) (string_bytes c.loop-e.text) c.loop-e.e c.args.running.now.plan.layout.links (omega arith) c.loop-e.invariant
+    let l : c.plan.result.now.layout.links ≡ (net_in c.args.running.now).links = ap (λ (p : Plan). p.layout.links) c.plan.ensures in
+    below_ends (store_one c.args.running.now) (string_bytes c.args.text.now) (string_bytes c.loop-e.text) c.loop-e.e (net_in c.args.running.now).links (omega arith) c.loop-e.invariant
