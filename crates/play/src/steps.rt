@@ -10,7 +10,7 @@ use crate::stop::Stop;
 use plan::Hall;
 use round::Running;
 use std::alloc::Global;
-use wire::{Refusal, Thing, WireError, thing_at};
+use wire::{Thing, WireError, thing_at};
 
 impl<'a> Play<'a> {
     // A script at its beginning, against the hall of a list of cables, unless that is refused.
@@ -41,7 +41,7 @@ impl<'a> Play<'a> {
         }
         let (thing, to) = thing_at(self.script, at)?;
         if let Some(fault) = self.game.fault(thing) {
-            return Err(WireError::Refused(Refusal { fault, offset: at }));
+            return Err(WireError::Refused(fault.at(at)));
         }
         self.game.take(thing).map_err(|_| WireError::Memory)?;
         self.at = to;

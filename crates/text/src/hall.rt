@@ -1,5 +1,5 @@
 // The text of a hall that is laid, a fact to a line.
-ghost use Rattle.std.specs.Prelude.{◌≡◌, ℕ, ◌+◌, ◌^◌, ◌<◌, false, List, ◌++◌, IfOk, string_bytes, OnOk, slice_index, slice_index_or};
+ghost use Rattle.std.specs.Prelude.{◌≡◌, ℕ, ◌+◌, ◌^◌, ◌<◌, List, ◌++◌, IfOk, string_bytes, OnOk};
 ghost use Rattle.text.specs.Laid.{Way, Ways, along_text, doors_text, text_of_hall, head_text, links_text, patience_in, road_text, roads_text, row_text, table_text};
 
 use crate::pieces::{Line, Spaced, write_each};
@@ -51,27 +51,25 @@ fn patience(hall: &Hall, channel: usize) -> u64
     hall.bounds.patience(channel).unwrap_or(0)
 }
 
-// A link with all that is known of it.
-fn link(hall: &Hall, channel: usize) -> LinkLine
-    ensures { (result.channel ≡ channel) × (result.from ≡ slice_index hall.now.tree.cabling.from.items channel) × (result.to ≡ slice_index hall.now.tree.cabling.to.items channel) × (result.up ≡ slice_index_or hall.now.tree.ups.items channel false) × (result.rank ≡ slice_index hall.now.tree.ranks.items channel) × (result.patience ≡ patience_in hall.now channel) }
-{
-    let tree = &hall.tree;
-    LinkLine {
-        channel,
-        from: tree.cabling.from.get(channel).copied().unwrap_or(0),
-        to: tree.cabling.to.get(channel).copied().unwrap_or(0),
-        up: tree.ups.get(channel).copied().unwrap_or(false),
-        rank: tree.ranks.get(channel).copied().unwrap_or(0),
-        patience: patience(hall, channel),
-    }
-}
-
 // All links.
 fn links(text: &mut String, hall: &Hall) -> Result<(), AllocError>
     ensures { OnOk result (string_bytes text.new ≡ string_bytes text.old ++ links_text hall.now) }
 {
-    let channels = 0..hall.tree.cabling.from.len();
-    write_each(text, channels.map(|channel| Line(link(hall, channel))))
+    let tree = &hall.tree;
+    let links = tree.cabling.links.iter().zip(tree.ways.iter()).enumerate();
+    write_each(
+        text,
+        links.map(|(channel, (link, way))| {
+            Line(LinkLine {
+                channel,
+                from: link.from,
+                to: link.to,
+                up: way.up,
+                rank: way.rank,
+                patience: patience(hall, channel),
+            })
+        }),
+    )
 }
 
 // A door with all that is known of it.

@@ -1,8 +1,7 @@
 // Texts one after another: of each thing that an iterator gives, what the thing shows.
-ghost use Rattle.std.specs.Iterator.{Drains, IsFinite};
-ghost use Rattle.std.specs.Prelude.{◌≡◌, List, ◌++◌, codes, string_bytes, IsSome, OnOk};
 ghost use Rattle.std.specs.Fmt.{option_append};
-ghost use Rattle.std.specs.Prelude.{Some};
+ghost use Rattle.std.specs.Iterator.{IsFinite};
+ghost use Rattle.std.specs.Prelude.{codes, string_bytes, Some, OnOk};
 ghost use Rattle.text.specs.Texts.{Writes};
 
 use std::alloc::AllocError;

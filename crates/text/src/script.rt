@@ -95,8 +95,7 @@ impl Account {
         match thing {
             Thing::Round => self.came(running),
             Thing::Show => show(&mut self.text, running),
-            Thing::Block(_) => Ok(()),
-            Thing::Word(_) => Ok(()),
+            Thing::Block(_) | Thing::Word(_) => Ok(()),
         }
     }
 
