@@ -45,13 +45,13 @@ module _ (t : Tree) where
       (high_state (graph_in t).n (c - (graph_in t).links) (omega arith) ∙ sym (ap (start (graph_in t) (up_in t)) q ∙ start_door (graph_in t) (up_in t) (c - (graph_in t).links)), omega arith)
 
 -- the row of the state after a channel
-pub row_is : (w : Onward) (c x : ℕ) (e : State) → e ≡ get_or (vec_items w.states) x e → state_of (graph_in w.tree.now).n x ≡ start (graph_in w.tree.now) (up_in w.tree.now) c → x < (graph_in w.tree.now).n + (graph_in w.tree.now).n →
-    (length (vec_items e.row) ≡ (graph_in w.tree.now).n) ×
-    ((p : ℕ) → p < (graph_in w.tree.now).n → get_or (vec_items e.row) p Here ≡ whole (graph_in w.tree.now) (up_in w.tree.now) c p)
+pub row_is : (w : Onward) (c x : ℕ) (e : State) → e ≡ get_or (vec_items w.swept.states) x e → state_of (graph_in w.swept.tree.now).n x ≡ start (graph_in w.swept.tree.now) (up_in w.swept.tree.now) c → x < (graph_in w.swept.tree.now).n + (graph_in w.swept.tree.now).n →
+    (length (vec_items e.row) ≡ (graph_in w.swept.tree.now).n) ×
+    ((p : ℕ) → p < (graph_in w.swept.tree.now).n → get_or (vec_items e.row) p Here ≡ whole (graph_in w.swept.tree.now) (up_in w.swept.tree.now) c p)
 row_is w c x e q s l =
-    let z = w.two_for_each in (
-      ap (λ (v : State). length (vec_items v.row)) q ∙ w.rows x e (omega arith),
-      λ p o. ap (λ (es : List Entry). get_or es p Here) (sym (part_at (λ (v : State). vec_items v.row) (vec_items w.states) x e [] (omega arith) q)) ∙ w.found x p l o ∙ ap (onward (graph_in w.tree.now) (up_in w.tree.now) p) s,
+    let z = w.swept.two_for_each in (
+      ap (λ (v : State). length (vec_items v.row)) q ∙ w.swept.rows x e (omega arith),
+      λ p o. ap (λ (es : List Entry). get_or es p Here) (sym (part_at (λ (v : State). vec_items v.row) (vec_items w.swept.states) x e [] (omega arith) q)) ∙ w.found x p l o ∙ ap (onward (graph_in w.swept.tree.now) (up_in w.swept.tree.now) p) s,
     )
 
 -- the link that an entry names is there
