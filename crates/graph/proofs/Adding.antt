@@ -5,6 +5,7 @@ use Rattle.std.proofs.lemmas.List.{get_or-set_same, get_or-set_other}
 use Rattle.std.proofs.lemmas.Bool.{cases_eq, eq-eqb, ne_eqb}
 use Rattle.roads.specs.Numbers.{some}
 use Rattle.graph.specs.Sets.{has}
+use Rattle.graph.specs.Graph.{Graph}
 use Rattle.graph.specs.Layers.{Added}
 use Rattle.graph.proofs.Bits.{has_or}
 
@@ -28,38 +29,45 @@ pub some_more : (f : ℕ → Bool) (n : ℕ) → some f (n + 1) ≡ (f n || some
 unfolding some
 some_more f n = rw add-one refl
 
-pub added_none : (fs ts old : List ℕ) → Added fs ts old 0 old
-added_none fs ts old s t l h =
-    or_nothing (has (get_or old s 0) t) ∙ ap (λ (b : Bool). has (get_or old s 0) t || b) (sym (some_start (λ i. eqb (get_or fs i 0) s && has (get_or old (get_or ts i 0) 0) t)))
+pub added_none : (g : Graph) (old : List ℕ) → Added g old 0 old
+added_none g old s t l h =
+    or_nothing (has (get_or old s 0) t) ∙ ap (λ (b : Bool). has (get_or old s 0) t || b) (sym (some_start (λ i. eqb (g.from i) s && has (get_or old (g.to i) 0) t)))
 
-pub added_more : (fs ts old sets : List ℕ) (k : ℕ) → length sets ≡ length old → get_or fs k 0 < length old → Added fs ts old k sets →
-    Added fs ts old (k + 1) (set sets (get_or fs k 0) (bit_or (get_or sets (get_or fs k 0) 0) (get_or old (get_or ts k 0) 0)))
-added_more fs ts old sets k n f h s t l w = ⊎_elim here other (cases_eq s (get_or fs k 0))
+pub added_more : (g : Graph) (old sets : List ℕ) (k : ℕ) → length sets ≡ length old → g.from k < length old → Added g old k sets →
+    Added g old (k + 1) (set sets (g.from k) (bit_or (get_or sets (g.from k) 0) (get_or old (g.to k) 0)))
+added_more g old sets k n f h s t l w = ⊎_elim here other (cases_eq s (g.from k))
   where
-    more : (has (get_or old s 0) t || some (λ i. eqb (get_or fs i 0) s && has (get_or old (get_or ts i 0) 0) t) (k + 1)) ≡
-        (has (get_or old s 0) t || ((eqb (get_or fs k 0) s && has (get_or old (get_or ts k 0) 0) t) || some (λ i. eqb (get_or fs i 0) s && has (get_or old (get_or ts i 0) 0) t) k))
-    more = ap (λ (b : Bool). has (get_or old s 0) t || b) (some_more (λ i. eqb (get_or fs i 0) s && has (get_or old (get_or ts i 0) 0) t) k)
+    more : (has (get_or old s 0) t || some (λ i. eqb (g.from i) s && has (get_or old (g.to i) 0) t) (k + 1)) ≡
+        (has (get_or old s 0) t || ((eqb (g.from k) s && has (get_or old (g.to k) 0) t) || some (λ i. eqb (g.from i) s && has (get_or old (g.to i) 0) t) k))
+    more = ap (λ (b : Bool). has (get_or old s 0) t || b) (some_more (λ i. eqb (g.from i) s && has (get_or old (g.to i) 0) t) k)
 
-    here : s ≡ get_or fs k 0 → has (get_or (set sets (get_or fs k 0) (bit_or (get_or sets (get_or fs k 0) 0) (get_or old (get_or ts k 0) 0))) s 0) t ≡
-        (has (get_or old s 0) t || some (λ i. eqb (get_or fs i 0) s && has (get_or old (get_or ts i 0) 0) t) (k + 1))
+    here : s ≡ g.from k → has (get_or (set sets (g.from k) (bit_or (get_or sets (g.from k) 0) (get_or old (g.to k) 0))) s 0) t ≡
+        (has (get_or old s 0) t || some (λ i. eqb (g.from i) s && has (get_or old (g.to i) 0) t) (k + 1))
     here q =
-        let v = bit_or (get_or sets (get_or fs k 0) 0) (get_or old (get_or ts k 0) 0) in
-        let a : get_or (set sets (get_or fs k 0) v) s 0 ≡ v = subst (λ (i : ℕ). get_or (set sets (get_or fs k 0) v) i 0 ≡ v) (sym q) (get_or-set_same sets (get_or fs k 0) v 0 (omega arith)) in
-        let b : has (get_or sets (get_or fs k 0) 0) t ≡ has (get_or sets s 0) t = ap (λ (i : ℕ). has (get_or sets i 0) t) (sym q) in
-        let c : eqb (get_or fs k 0) s ≡ true = eq-eqb (get_or fs k 0) s (sym q) in
-        let d : has (get_or old (get_or ts k 0) 0) t ≡ (eqb (get_or fs k 0) s && has (get_or old (get_or ts k 0) 0) t) = ap (λ (u : Bool). u && has (get_or old (get_or ts k 0) 0) t) (sym c) in
-        ap (λ (u : ℕ). has u t) a ∙ has_or (get_or sets (get_or fs k 0) 0) (get_or old (get_or ts k 0) 0) t
-        ∙ ap (λ (u : Bool). u || has (get_or old (get_or ts k 0) 0) t) (b ∙ h s t l w)
-        ∙ ap (λ (u : Bool). (has (get_or old s 0) t || some (λ i. eqb (get_or fs i 0) s && has (get_or old (get_or ts i 0) 0) t) k) || u) d
-        ∙ or_turn (has (get_or old s 0) t) (some (λ i. eqb (get_or fs i 0) s && has (get_or old (get_or ts i 0) 0) t) k) (eqb (get_or fs k 0) s && has (get_or old (get_or ts k 0) 0) t)
+        let v = bit_or (get_or sets (g.from k) 0) (get_or old (g.to k) 0) in
+        let a : get_or (set sets (g.from k) v) s 0 ≡ v = subst (λ (i : ℕ). get_or (set sets (g.from k) v) i 0 ≡ v) (sym q) (get_or-set_same sets (g.from k) v 0 (omega arith)) in
+        let b : has (get_or sets (g.from k) 0) t ≡ has (get_or sets s 0) t = ap (λ (i : ℕ). has (get_or sets i 0) t) (sym q) in
+        let c : eqb (g.from k) s ≡ true = eq-eqb (g.from k) s (sym q) in
+        let d : has (get_or old (g.to k) 0) t ≡ (eqb (g.from k) s && has (get_or old (g.to k) 0) t) = ap (λ (u : Bool). u && has (get_or old (g.to k) 0) t) (sym c) in
+        ap (λ (u : ℕ). has u t) a ∙ has_or (get_or sets (g.from k) 0) (get_or old (g.to k) 0) t
+        ∙ ap (λ (u : Bool). u || has (get_or old (g.to k) 0) t) (b ∙ h s t l w)
+        ∙ ap (λ (u : Bool). (has (get_or old s 0) t || some (λ i. eqb (g.from i) s && has (get_or old (g.to i) 0) t) k) || u) d
+        ∙ or_turn (has (get_or old s 0) t) (some (λ i. eqb (g.from i) s && has (get_or old (g.to i) 0) t) k) (eqb (g.from k) s && has (get_or old (g.to k) 0) t)
         ∙ sym more
 
-    other : (s ≡ get_or fs k 0 → ⊥) → has (get_or (set sets (get_or fs k 0) (bit_or (get_or sets (get_or fs k 0) 0) (get_or old (get_or ts k 0) 0))) s 0) t ≡
-        (has (get_or old s 0) t || some (λ i. eqb (get_or fs i 0) s && has (get_or old (get_or ts i 0) 0) t) (k + 1))
+    other : (s ≡ g.from k → ⊥) → has (get_or (set sets (g.from k) (bit_or (get_or sets (g.from k) 0) (get_or old (g.to k) 0))) s 0) t ≡
+        (has (get_or old s 0) t || some (λ i. eqb (g.from i) s && has (get_or old (g.to i) 0) t) (k + 1))
     other q =
-        let v = bit_or (get_or sets (get_or fs k 0) 0) (get_or old (get_or ts k 0) 0) in
-        let c : eqb (get_or fs k 0) s ≡ false = ne_eqb (get_or fs k 0) s (λ e. q (sym e)) in
-        let e : (eqb (get_or fs k 0) s && has (get_or old (get_or ts k 0) 0) t) ≡ false = ap (λ (u : Bool). u && has (get_or old (get_or ts k 0) 0) t) c in
-        ap (λ (u : ℕ). has u t) (get_or-set_other sets (get_or fs k 0) s v 0 q) ∙ h s t l w
-        ∙ ap (λ (u : Bool). has (get_or old s 0) t || (u || some (λ i. eqb (get_or fs i 0) s && has (get_or old (get_or ts i 0) 0) t) k)) (sym e)
+        let v = bit_or (get_or sets (g.from k) 0) (get_or old (g.to k) 0) in
+        let c : eqb (g.from k) s ≡ false = ne_eqb (g.from k) s (λ e. q (sym e)) in
+        let e : (eqb (g.from k) s && has (get_or old (g.to k) 0) t) ≡ false = ap (λ (u : Bool). u && has (get_or old (g.to k) 0) t) c in
+        ap (λ (u : ℕ). has u t) (get_or-set_other sets (g.from k) s v 0 q) ∙ h s t l w
+        ∙ ap (λ (u : Bool). has (get_or old s 0) t || (u || some (λ i. eqb (g.from i) s && has (get_or old (g.to i) 0) t) k)) (sym e)
         ∙ sym more
+
+-- what the code writes for link k
+pub added_link : (g : Graph) (old sets : List ℕ) (k i u v w : ℕ) → length sets ≡ length old → g.from k < length old →
+    i ≡ g.from k → u ≡ bit_or v w → v ≡ get_or sets i 0 → w ≡ get_or old (g.to k) 0 → Added g old k sets → Added g old (k + 1) (set sets i u)
+added_link g old sets k i u v w n f p o q r h =
+    let a : u ≡ bit_or (get_or sets (g.from k) 0) (get_or old (g.to k) 0) = o ∙ ap (λ (x : ℕ). bit_or x w) (q ∙ ap (λ (x : ℕ). get_or sets x 0) p) ∙ ap (bit_or (get_or sets (g.from k) 0)) r in
+    subst (λ (x : ℕ). Added g old (k + 1) (set sets x u)) (sym p) (subst (λ (x : ℕ). Added g old (k + 1) (set sets (g.from k) x)) (sym a) (added_more g old sets k n f h))

@@ -1,14 +1,14 @@
 -- The first set that is full belongs to the root; the number of layers that lack the root is the level. Assumes nothing.
-use Rattle.std.proofs.Common.{◌≡◌, ℕ, suc, ◌+◌, ◌-◌, ◌<◌, ◌≤◌, Bool, true, false, cond, leb, List, length, get_or, sym, ap, ◌∙◌, subst, ⊎_elim, arith}
+use Rattle.std.proofs.Common.{◌≡◌, ℕ, suc, ◌+◌, ◌-◌, ◌<◌, ◌≤◌, Bool, true, false, cond, leb, List, length, get_or, Option, Some, None, sym, refl, ap, ◌∙◌, subst, ⊎_elim, arith}
 use Rattle.std.proofs.lemmas.Bool.{cases_lt, cases_Bool, le-leb, lt-leb, leb-true, leb-false, both_ways, cond-true, cond-false}
 use Rattle.roads.specs.Numbers.{Least, every}
 use Rattle.roads.specs.Roads.{within}
 use Rattle.roads.proofs.Below.{least_is, every_at, every_from, every_not, greatest_at, greatest_fits}
 use Rattle.roads.proofs.Roads.{shortest_le, shortest_within, shortest_is, within_more}
 use Rattle.graph.specs.Sets.{has}
-use Rattle.graph.specs.Graph.{Graph, graph_by}
+use Rattle.graph.specs.Graph.{Graph}
 use Rattle.graph.specs.Tree.{plain, at, distance, reach, root, level}
-use Rattle.graph.specs.Layers.{Reached, Center}
+use Rattle.graph.specs.Layers.{Finds, Reached, Center, Levelled}
 
 module _ (g : Graph) where
   -- a set is full at layer j just when the switch's greatest distance is at most j
@@ -36,10 +36,10 @@ module _ (g : Graph) where
       }
 
   -- the first full set at layer j, where none was full before
-  module _ (j : ℕ) (sets : List ℕ) (h : Reached g j sets) (o : j < g.n) (q : length sets ≡ g.n) (late : (t : ℕ) → t < g.n → j ≤ reach g t)
-      (r : ℕ) (f : Least (λ s. every (has (get_or sets s 0)) (length sets)) (length sets) r) where
-    test : (s : ℕ) → s < g.n → every (has (get_or sets s 0)) (length sets) ≡ leb (reach g s) j
-    test s l = ap (every (has (get_or sets s 0))) q ∙ full_reach j sets s h l o
+  module _ (j : ℕ) (sets : List ℕ) (h : Reached g j sets) (o : j < g.n) (late : (t : ℕ) → t < g.n → j ≤ reach g t)
+      (r : ℕ) (f : Least (λ s. every (has (get_or sets s 0)) g.n) g.n r) where
+    test : (s : ℕ) → s < g.n → every (has (get_or sets s 0)) g.n ≡ leb (reach g s) j
+    test s l = full_reach j sets s h l o
 
     pub later : r ≡ g.n → (t : ℕ) → t < g.n → j < reach g t
     later e t l = leb-false (reach g t) j (sym (test t l) ∙ f.none t (omega arith))
@@ -79,81 +79,48 @@ module _ (g : Graph) where
             none = λ k l. ⊎_elim (λ (m : k < r). h.none k m) (λ m. let p : j ≡ k = omega arith in subst (λ (v : ℕ). within (plain g) (at root₁) v s ≡ false) p e) (cases_lt k r);
           })
 
-  pub level_none : (root₁ s r : ℕ) → r ≡ 0 → Least (λ i. within (plain g) (at root₁) i s) 0 r
-  level_none root₁ s r e = record { fits = omega arith; passes = λ l. absurd (omega arith); none = λ k l. absurd (omega arith) }
-
   pub level_all : (root₁ s r j : ℕ) → j ≡ g.n → Least (λ i. within (plain g) (at root₁) i s) j r → r ≡ level g root₁ s
   level_all root₁ s r j q h = shortest_is (plain g) (at root₁) g.n r s (subst (λ (v : ℕ). Least (λ i. within (plain g) (at root₁) i s) v r) q h)
 
 -- what the loop over layers keeps: the sets are those of layer j, and none was full before
-abbrev pub Layer : ℕ → List ℕ → List ℕ → ℕ → List ℕ → Type 0
-Layer n fs ts j sets = (Reached (graph_by n fs ts) j sets) × ((t : ℕ) → t < n → j ≤ reach (graph_by n fs ts) t)
+pub record Late (g : Graph) (j : ℕ) (sets : List ℕ) : Type 0 where
+  pub reached : Reached g j sets
+  pub late : (t : ℕ) → t < g.n → j ≤ reach g t
 
-module _ (fs ts sets : List ℕ) (n j r : ℕ) (q : length sets ≡ n) (h : Layer (length sets) fs ts j sets) (o : j < n)
-    (f : Least (λ s. every (has (get_or sets s 0)) (length sets)) (length sets) r) where
-  at_n : Layer n fs ts j sets
-  at_n = subst (λ (m : ℕ). Layer m fs ts j sets) q h
+module _ (g : Graph) (j : ℕ) (sets : List ℕ) (h : Late g j sets) (o : j < g.n) where
+  pub center_found : (r : ℕ) → r < g.n → Least (λ s. every (has (get_or sets s 0)) g.n) g.n r → Center g sets (Some r)
+  center_found r l f = let a = found_root g j sets h.reached o h.late r f l in (a.0, l, a.1)
 
-  pub center_found : r < n → Center (graph_by n fs ts) sets r
-  center_found l =
-      let i = at_n in
-      record {
-        fits = omega arith;
-        found = λ _. found_root (graph_by n fs ts) j sets i.0 o q i.1 r f l;
-        none = λ e. absurd (omega arith);
-      }
+  pub none_yet : Least (λ s. every (has (get_or sets s 0)) g.n) g.n g.n → (t : ℕ) → t < g.n → suc j ≤ reach g t
+  none_yet f = later g j sets h.reached o h.late g.n f refl
 
-  pub center_last : j ≡ n - 1 → Center (graph_by n fs ts) sets r
-  center_last e =
-      let i = at_n in
-      let a = f.fits in
-      record {
-        fits = omega arith;
-        found = λ l. found_root (graph_by n fs ts) j sets i.0 o q i.1 r f l;
-        none = λ d. (
-          (λ s l. let b = later (graph_by n fs ts) j sets i.0 o q i.1 r f d s l in omega arith),
-          subst (λ (k : ℕ). Reached (graph_by n fs ts) k sets) e i.0,
-        );
-      }
+  pub center_none : j ≡ g.n - 1 → Least (λ s. every (has (get_or sets s 0)) g.n) g.n g.n → Center g sets None
+  center_none e f = (
+    (λ s l. let b = none_yet f s l in omega arith),
+    subst (λ (k : ℕ). Reached g k sets) e h.reached,
+  )
 
-  pub center_more : (next : List ℕ) (i : ℕ) → i ≡ suc j → length next ≡ n → r ≡ n →
-      ((k : ℕ) → Reached (graph_by (length sets) fs ts) k sets → Reached (graph_by (length sets) fs ts) (suc k) next) → Layer (length next) fs ts i next
-  center_more next i e m d step =
-      let a = at_n in
-      subst (λ (k : ℕ). Layer (length next) fs ts k next) (sym e)
-      (subst (λ (k : ℕ). Layer k fs ts (suc j) next) (sym m) (
-        subst (λ (k : ℕ). Reached (graph_by k fs ts) (suc j) next) q (step j h.0),
-        λ t l. later (graph_by n fs ts) j sets a.0 o q a.1 r f d t l,
-      ))
+  pub center_by : j ≡ g.n - 1 → (r : Option ℕ) → Finds (λ s. every (has (get_or sets s 0)) g.n) g.n r → Center g sets r
+  center_by e None f = center_none e f
+  center_by e (Some r) f = center_found r f.0 f.1
+
+  pub late_more : (next : List ℕ) → Least (λ s. every (has (get_or sets s 0)) g.n) g.n g.n → ((k : ℕ) → Reached g k sets → Reached g (suc k) next) → Late g (suc j) next
+  late_more next f step = record { reached = step j h.reached; late = none_yet f }
 
 -- what the loop that counts levels keeps
-abbrev pub Counted : ℕ → List ℕ → List ℕ → ℕ → ℕ → List ℕ → List ℕ → Type 0
-Counted n fs ts root₁ j sets levels =
-    (Reached (graph_by n fs ts) j sets) × ((s : ℕ) → s < n → Least (λ i. within (plain (graph_by n fs ts)) (at root₁) i s) j (get_or levels s 0))
+pub record Counted (g : Graph) (root₁ j : ℕ) (sets levels : List ℕ) : Type 0 where
+  pub each_level : length levels ≡ g.n
+  pub reached : Reached g j sets
+  pub counted : (s : ℕ) → s < g.n → Least (λ i. within (plain g) (at root₁) i s) j (get_or levels s 0)
 
-pub counted_more : (fs ts sets levels sets' levels' : List ℕ) (root₁ j : ℕ) → root₁ < length sets → length sets' ≡ length sets →
-    Counted (length sets) fs ts root₁ j sets levels →
-    ((s : ℕ) → s < length sets → get_or levels' s 0 ≡ get_or levels s 0 + cond (has (get_or sets s 0) root₁) 0 1) →
-    ((k : ℕ) → Reached (graph_by (length sets) fs ts) k sets → Reached (graph_by (length sets) fs ts) (suc k) sets') →
-    Counted (length sets') fs ts root₁ (j + 1) sets' levels'
-counted_more fs ts sets levels sets' levels' root₁ j b q h c step =
-    let e : suc j ≡ j + 1 = omega arith in
-    subst (λ (n : ℕ). Counted n fs ts root₁ (j + 1) sets' levels') (sym q)
-    (subst (λ (k : ℕ). Counted (length sets) fs ts root₁ k sets' levels') e (
-      step j h.0,
-      λ s l.
-          let g = graph_by (length sets) fs ts in
-          let p : get_or levels' s 0 ≡ get_or levels s 0 + cond (within (plain (graph_by (length sets) fs ts)) (at root₁) j s) 0 1 =
-          c s l ∙ ap (λ (v : Bool). get_or levels s 0 + cond v 0 1) (h.0 s root₁ l b) in
-          subst (λ (v : ℕ). Least (λ i. within (plain (graph_by (length sets) fs ts)) (at root₁) i s) (suc j) v) (sym p) (level_more (graph_by (length sets) fs ts) root₁ s j (get_or levels s 0) (h.1 s l)),
-    ))
+-- a level is one more where the root is not reached
+pub counted_more : (g : Graph) (root₁ j : ℕ) (sets levels : List ℕ) → root₁ < g.n → Counted g root₁ j sets levels →
+    (levels' : List ℕ) → ((s : ℕ) → s < g.n → get_or levels' s 0 ≡ get_or levels s 0 + cond (has (get_or sets s 0) root₁) 0 1) →
+    (s : ℕ) → s < g.n → Least (λ i. within (plain g) (at root₁) i s) (suc j) (get_or levels' s 0)
+counted_more g root₁ j sets levels b h levels' c s l =
+    let p : get_or levels' s 0 ≡ get_or levels s 0 + cond (within (plain g) (at root₁) j s) 0 1 =
+    c s l ∙ ap (λ (v : Bool). get_or levels s 0 + cond v 0 1) (h.reached s root₁ l b) in
+    subst (λ (v : ℕ). Least (λ i. within (plain g) (at root₁) i s) (suc j) v) (sym p) (level_more g root₁ s j (get_or levels s 0) (h.counted s l))
 
-pub counted_all : (fs ts sets levels : List ℕ) (n root₁ j : ℕ) → length sets ≡ n → j ≡ length sets → Counted (length sets) fs ts root₁ j sets levels →
-    (s : ℕ) → s < n → get_or levels s 0 ≡ level (graph_by n fs ts) root₁ s
-counted_all fs ts sets levels n root₁ j q e h s l =
-    let a = subst (λ (m : ℕ). Counted m fs ts root₁ j sets levels) q h in
-    level_all (graph_by n fs ts) root₁ s (get_or levels s 0) j (e ∙ q) (a.1 s l)
-
--- a level that is counted is at most the number of layers
-pub counted_small : (fs ts sets levels : List ℕ) (root₁ j : ℕ) → Counted (length sets) fs ts root₁ j sets levels → (s : ℕ) → s < length sets → get_or levels s 0 ≤ j
-counted_small fs ts sets levels root₁ j h s l = (h.1 s l).fits
+pub counted_all : (g : Graph) (root₁ j : ℕ) (sets levels : List ℕ) → j ≡ g.n → Counted g root₁ j sets levels → Levelled g root₁ levels
+counted_all g root₁ j sets levels e h = record { size = h.each_level; each = λ s l. level_all g root₁ s (get_or levels s 0) j e (h.counted s l) }

@@ -1,6 +1,7 @@
 -- The links of a list of cables: cable k, which joins a and b, gives link 2k from a to b and link 2k + 1 from b to a. Assumes nothing.
-use Rattle.std.specs.Prelude.{ℕ, List, [], ◌∷◌}
+use Rattle.std.specs.Prelude.{ℕ, List, [], ◌∷◌, flat_map}
 use Rattle.net.specs.declared.Cable.{Cable}
+use Rattle.graph.specs.declared.link.Link.{Link}
 use Rattle.graph.specs.Graph.{Graph, graph_by}
 
 -- where each link begins
@@ -16,3 +17,11 @@ tos (c ∷ cs) = c.b ∷ c.a ∷ tos cs
 -- the graph of a list of cables
 abbrev pub graph_of : ℕ → List Cable → Graph
 graph_of n cs = graph_by n (froms cs) (tos cs)
+
+-- the two links of a cable
+abbrev pub there_and_back : Cable → List Link
+there_and_back c = record { from = c.a; to = c.b } ∷ record { from = c.b; to = c.a } ∷ []
+
+-- the links themselves
+abbrev pub links_of : List Cable → List Link
+links_of cs = flat_map there_and_back cs

@@ -1,10 +1,12 @@
 -- Which lists of cables are accepted, and why others are refused: sizes first, then cables in their order, then whether all are joined. Assumes nothing.
 use Rattle.std.specs.Prelude.{◌≡◌, ℕ, ◌<◌, ◌≤◌, ◌⊎◌, List, length, get_or, vec_items, slice_index_or}
+use Rattle.net.specs.Cables.{Joins}
 use Rattle.net.specs.declared.Cable.{Cable}
 use Rattle.graph.specs.declared.cabling.Cabling.{Cabling}
 use Rattle.graph.specs.declared.error.CableError.{CableError}
 use Rattle.graph.specs.declared.error.CableError.TheVariants.{Switches, Cables, NoSwitch, Loop, Lost, Memory}
-use Rattle.graph.specs.Cables.{froms, tos, graph_of}
+use Rattle.graph.specs.Cables.{graph_of, links_of}
+use Rattle.graph.specs.Graph.{Graph, graph_with}
 use Rattle.graph.specs.declared.error.TreeError.{TreeError}
 use Rattle.graph.specs.declared.error.TreeError.TheVariants.{NoRoot, Memory as NoMemory}
 use Rattle.graph.specs.Layers.{Levelled}
@@ -13,12 +15,6 @@ use Rattle.graph.specs.Tree as tree
 
 abbrev pub no_cable : Cable
 no_cable = record { a = 0; b = 0 }
-
--- a cable joins two different switches that are there
-pub record Sound (n : ℕ) (c : Cable) : Type 0 where
-  pub a : c.a < n
-  pub b : c.b < n
-  pub apart : c.a ≡ c.b → ⊥
 
 pub record Sizes (n : ℕ) (cs : List Cable) : Type 0 where
   pub some : 0 < n
@@ -29,11 +25,11 @@ pub record Sizes (n : ℕ) (cs : List Cable) : Type 0 where
 pub record Until (n : ℕ) (cs : List Cable) (k : ℕ) : Type 0 where
   pub sizes : Sizes n cs
   pub below : k < length cs
-  pub sound : (i : ℕ) → i < k → Sound n (slice_index_or cs i no_cable)
+  pub sound : (i : ℕ) → i < k → Joins n (slice_index_or cs i no_cable)
 
 pub record Fine (n : ℕ) (cs : List Cable) : Type 0 where
   pub sizes : Sizes n cs
-  pub sound : (i : ℕ) → i < length cs → Sound n (slice_index_or cs i no_cable)
+  pub sound : (i : ℕ) → i < length cs → Joins n (slice_index_or cs i no_cable)
 
 -- why a list is refused
 abbrev pub Refuses : ℕ → List Cable → CableError → Type 0
@@ -48,15 +44,18 @@ Refuses n cs Memory = Fine n cs
 pub record Accepts (n : ℕ) (cs : List Cable) (g : Cabling) : Type 0 where
   pub fine : Fine n cs
   pub switches : g.switches ≡ n
-  pub from : vec_items g.from ≡ froms cs
-  pub to : vec_items g.to ≡ tos cs
+  pub links : vec_items g.links ≡ links_of cs
   pub root : g.root ≡ root (graph_of n cs)
   pub joined : Joined (graph_of n cs)
+
+-- the graph of an accepted list
+abbrev pub graph_of_cabling : Cabling → Graph
+graph_of_cabling g = graph_with g.switches (vec_items g.links)
 
 -- the list has each switch's level in the tree with root r
 pub record Levels (g : Cabling) (r : ℕ) (ls : List ℕ) : Type 0 where
   pub below : r < g.switches
-  pub levelled : Levelled g.switches (vec_items g.from) (vec_items g.to) r ls
+  pub levelled : Levelled (graph_of_cabling g) r ls
 
 abbrev pub Rootless : Cabling → ℕ → TreeError → Type 0
 Rootless g r NoRoot = g.switches ≤ r

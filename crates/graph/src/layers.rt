@@ -1,35 +1,133 @@
-ghost use Rattle.std.specs.Prelude.{◌≡◌, ℕ, suc, ◌<◌, ◌≤◌, List, length};
-ghost use Rattle.graph.specs.Graph.{graph_by};
-ghost use Rattle.graph.specs.Layers.{Added, Ends, Reached};
+ghost use Rattle.std.specs.Prelude.{◌≡◌, ℕ, suc, ◌+◌, ◌^◌, ◌<◌, ◌≤◌, map, length, All, vec_len, IfOk, MatchResult, if◌then◌else◌, slice_index};
+ghost use Rattle.std.specs.List.{range_with_len};
+ghost use Rattle.graph.specs.Graph.{graph_with};
+ghost use Rattle.graph.specs.Layers.{Center, Finds, Levelled, Linked, Reached};
+ghost use Rattle.graph.specs.Sets.{has};
+ghost use Rattle.graph.specs.Tree.{Joined, Lost, root};
+ghost use Rattle.roads.specs.Numbers.{every};
 
-// At first each switch has reached itself.
-pub(crate) fn start(sets: &mut [u64])
-    requires { length sets.old ≤ 64 }
-    ensures { (fs ts : List ℕ) → Reached (graph_by (length sets.old) fs ts) 0 sets.new }
+use crate::Link;
+use crate::error::NotJoined;
+use crate::sets::Set;
+use std::alloc::{AllocError, Global};
+
+// Sets of one switch each.
+fn alone(heap: Global, switches: usize) -> Result<Vec<Set>, AllocError>
+    requires { switches ≤ 64 }
+    ensures { IfOk result (λ v. v.items ≡ map (λ s. 2 ^ s) (range_with_len 0 switches)) }
 {
-    for s in 0..sets.len() {
-        sets[s] = 1u64 << s;
+    (0..switches).map(Set::of).collect(heap)
+}
+
+// Which switches each switch has reached over these links, layer by layer; `before` has room for the sets of the layer
+// before.
+#[derive(Drop)]
+pub(crate) struct Layers<'a> {
+    links: &'a [Link],
+    before: Vec<Set>,
+    sets: Vec<Set>,
+    ghost same: { vec_len before ≡ vec_len sets },
+    ghost linked: { Linked (graph_with (vec_len sets) links.now) },
+}
+
+impl<'a> Layers<'a> {
+    ghost use Rattle.graph.specs.Reach.{over};
+
+    // At first each switch has reached itself.
+    pub(crate) fn start(
+        heap: Global,
+        switches: usize,
+        links: &'a [Link],
+    ) -> Result<Layers<'a>, AllocError>
+        requires { Linked (graph_with switches links.now) }
+        ensures { IfOk result (λ y. (over y ≡ graph_with switches links.now) × Reached (over y) 0 y.sets.items) }
+    {
+        let sets = alone(heap, switches)?;
+        let before = vec![in heap; Set::empty(); switches]?;
+        Ok(Layers {
+            links,
+            before,
+            sets,
+        })
     }
-}
 
-// One layer more: each switch reaches what its neighbors had reached. What `old` holds is written over.
-pub(crate) fn layer(from: &[u8], to: &[u8], old: &mut [u64], sets: &mut [u64])
-    requires ends { Ends (length sets.old) from.now to.now }
-    requires same { length old.old ≡ length sets.old }
-    requires few { length sets.old ≤ 64 }
-    ensures { (j : ℕ) → Reached (graph_by (length sets.old) from.now to.now) j sets.old → Reached (graph_by (length sets.old) from.now to.now) (suc j) sets.new }
-{
-    old.copy_from_slice(sets);
-    add_links(from, to, old, sets);
-}
+    // One layer more: each switch reaches what its neighbors had reached.
+    fn layer(&mut self)
+        ensures same { over self.new ≡ over self.old }
+        ensures more { (j : ℕ) → Reached (over self.old) j self.old.sets.items → Reached (over self.old) (suc j) self.new.sets.items }
+    {
+        let Layers {
+            links,
+            before,
+            sets,
+        } = self;
+        before.copy_from_slice(sets);
+        for link in *links {
+            sets[usize::from(link.from)].add(before[usize::from(link.to)]);
+        }
+    }
 
-// Each link adds to the set of where it begins the old set of where it ends.
-fn add_links(from: &[u8], to: &[u8], old: &[u64], sets: &mut [u64])
-    requires ends { Ends (length old.now) from.now to.now }
-    requires same { sets.old ≡ old.now }
-    ensures { Added from.now to.now old.now (length from.now) sets.new }
-{
-    for k in 0..from.len() {
-        sets[from[k] as usize] |= old[to[k] as usize];
+    // The first switch that has reached all.
+    fn first_full(&self) -> Option<usize>
+        ensures { Finds (λ s. every (has (slice_index self.now.sets.items s)) (over self.now).n) (over self.now).n result }
+    {
+        let switches = self.sets.len();
+        self.sets.iter().position(|set| set.is_full(switches))
+    }
+
+    // The root: the first switch, layer by layer, that has reached all.
+    fn center(&mut self) -> Option<usize>
+        requires { Reached (over self.old) 0 self.old.sets.items }
+        ensures same { over self.new ≡ over self.old }
+        ensures center { Center (over self.new) self.new.sets.items result }
+    {
+        for _j in 1..self.sets.len() {
+            if let Some(root) = self.first_full() {
+                return Some(root);
+            }
+            self.layer();
+        }
+        self.first_full()
+    }
+
+    // The root, if all switches are joined.
+    pub(crate) fn join(mut self) -> Result<usize, NotJoined>
+        requires { Reached (over self) 0 self.sets.items }
+        ensures { MatchResult result (λ r. (r ≡ root (over self.entry)) × (r < (over self.entry).n) × Joined (over self.entry)) (λ e. Lost (over self.entry) e.lost) }
+    {
+        match self.center() {
+            Some(root) => Ok(root),
+            None => Err(NotJoined {
+                lost: self.sets[0].lowest_missing(self.sets.len()).unwrap(),
+            }),
+        }
+    }
+
+    // One more for each switch that has not reached the root.
+    fn count(&self, root: usize, levels: &mut [u8])
+        requires same { length levels.old ≡ vec_len self.now.sets }
+        requires small { All (λ l. l < 255) levels.old }
+        ensures { (s : ℕ) → s < vec_len self.now.sets → slice_index levels.new s ≡ slice_index levels.old s + (if has (slice_index self.now.sets.items s) root then 0 else 1) }
+    {
+        // Over a zip of `levels` and `sets` the proof would not know what `levels` holds.
+        for (s, level) in levels.iter_mut().enumerate() {
+            if !self.sets[s].has(root) {
+                *level += 1;
+            }
+        }
+    }
+
+    // The level of each switch: in how many layers it has not reached the root.
+    pub(crate) fn levels(mut self, heap: Global, root: usize) -> Result<Vec<u8>, AllocError>
+        requires below { root < (over self).n }
+        requires start { Reached (over self) 0 self.sets.items }
+        ensures { IfOk result (λ v. Levelled (over self.entry) root v.items) }
+    {
+        let mut levels = vec![in heap; 0u8; self.sets.len()]?;
+        for _j in 0..self.sets.len() {
+            self.count(root, &mut levels);
+            self.layer();
+        }
+        Ok(levels)
     }
 }

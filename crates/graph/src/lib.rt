@@ -4,20 +4,18 @@
 // shorter, and the root is the switch whose greatest distance is least, the lowest number among equals.
 #![tactic(auto)]
 
-mod begins;
 mod cabling;
 mod check;
 mod error;
-mod joins;
 mod laws;
 mod layers;
-mod levels;
+mod link;
 mod making;
-mod root;
 mod sets;
 
 pub use cabling::Cabling;
 pub use error::{CableError, TreeError};
 pub use laws::{distance_is_shortest, root_is_central};
+pub use link::Link;
 pub use net::Cable;
 pub use sets::has;

@@ -1,11 +1,9 @@
 ghost use Rattle.graph.specs.Refusal.{Accepts, Levels, Refuses, Rootless};
 ghost use Rattle.std.specs.Prelude.{MatchResult};
 
-use crate::begins::{begins, ends};
 use crate::check::check;
-use crate::joins::join;
-use crate::levels::levels_of;
-use crate::{Cable, CableError, Cabling, TreeError};
+use crate::layers::Layers;
+use crate::{Cable, CableError, Cabling, Link, TreeError};
 use std::alloc::Global;
 
 impl Cabling {
@@ -13,24 +11,14 @@ impl Cabling {
     pub fn new(heap: Global, switches: usize, cables: &[Cable]) -> Result<Cabling, CableError>
         ensures { MatchResult result (λ g. Accepts switches cables.now g) (λ e. Refuses switches cables.now e) }
     {
-        if let Err(e) = check(switches, cables) {
-            return Err(e);
-        }
-        let Ok(from) = begins(heap, cables) else {
-            return Err(CableError::Memory);
-        };
-        let Ok(to) = ends(heap, cables) else {
-            return Err(CableError::Memory);
-        };
-        match join(from.as_slice(), to.as_slice(), switches) {
-            Ok(root) => Ok(Cabling {
-                switches,
-                from,
-                to,
-                root,
-            }),
-            Err(switch) => Err(CableError::Lost { switch }),
-        }
+        check(switches, cables)?;
+        let links = Link::list(heap, cables)?;
+        let root = Layers::start(heap, switches, &links)?.join()?;
+        Ok(Cabling {
+            switches,
+            links,
+            root,
+        })
     }
 
     // The level of each switch in the tree with this root.
@@ -40,15 +28,7 @@ impl Cabling {
         if self.switches <= root {
             return Err(TreeError::NoRoot);
         }
-        match levels_of(
-            heap,
-            self.from.as_slice(),
-            self.to.as_slice(),
-            self.switches,
-            root,
-        ) {
-            Ok(levels) => Ok(levels),
-            Err(_) => Err(TreeError::Memory),
-        }
+        let layers = Layers::start(heap, self.switches, &self.links)?;
+        Ok(layers.levels(heap, root)?)
     }
 }

@@ -7,85 +7,61 @@ ghost use Rattle.machine.specs.Promise.{Fits, CountRight, Conserved, InOrder, At
 ghost use Rattle.machine.specs.Still.{StandsStill};
 
 // The definitions can stand still: only rising ranks forbid it.
-pub fn ring_stands_still() -> u8
+pub fn ring_stands_still()
     ensures { StandsStill }
-{
-    0
-}
+{}
 
 // No store is ever overfilled.
-pub fn fits_always() -> u8
+pub fn fits_always()
     ensures { Fits }
-{
-    0
-}
+{}
 
 // The credits counted at the near end are right.
-pub fn count_is_right() -> u8
+pub fn count_is_right()
     ensures { CountRight }
-{
-    0
-}
+{}
 
 // Nothing is lost, doubled or changed.
-pub fn nothing_lost() -> u8
+pub fn nothing_lost()
     ensures { Conserved }
-{
-    0
-}
+{}
 
 // Of the blocks of one door for one place, those that came are a first part of those let in.
-pub fn in_order() -> u8
+pub fn in_order()
     ensures { InOrder }
-{
-    0
-}
+{}
 
 // Where a block's door leads to its place, it comes there.
-pub fn at_place() -> u8
+pub fn at_place()
     ensures { AtPlace }
-{
-    0
-}
+{}
 
 // In a round each block moves over at most one link.
-pub fn one_link_a_round() -> u8
+pub fn one_link_a_round()
     ensures { OneLink }
-{
-    0
-}
+{}
 
 // As long as anything is under way, some channel has less after the next round.
-pub fn never_still() -> u8
+pub fn never_still()
     ensures { Moves }
-{
-    0
-}
+{}
 
 // A block that stands anywhere has come after as many rounds as its wait.
-pub fn waits_bounded() -> u8
+pub fn waits_bounded()
     ensures { Waits }
-{
-    0
-}
+{}
 
 // So has a block that is let in, counted from that moment.
-pub fn enters_bounded() -> u8
+pub fn enters_bounded()
     ensures { Enters }
-{
-    0
-}
+{}
 
 // The whole promise.
-pub fn whole_promise() -> u8
+pub fn whole_promise()
     ensures { Main }
-{
-    0
-}
+{}
 
 // A block can take as long as its wait.
-pub fn takes_its_wait() -> u8
+pub fn takes_its_wait()
     ensures { OnTime }
-{
-    0
-}
+{}

@@ -1,3 +1,4 @@
+pub mod Falls
 pub mod Outside
 pub mod Positions
 pub mod Ranked

@@ -35,17 +35,5 @@ good l some r = record { some = some; rises = λ c p e q. up c e (subst (λ (x :
         let b = and_parts (ltb e l.links) (ltb (get_or (vec_items l.ranks) c 0) (get_or (vec_items l.ranks) e 0)) t in
         (ltb-true e l.links b.0, ltb-true (get_or (vec_items l.ranks) c 0) (get_or (vec_items l.ranks) e 0) b.1)
 
-pub plan_sized : (p : Plan) → Sized p.layout
-plan_sized p = record {
-  few = p.few;
-  doors = p.doors;
-  places = p.places;
-  some = p.some;
-  most = p.most;
-  table = p.table;
-  ranks = p.ranks;
-  ends = p.ends;
-}
-
 pub plan_good : (p : Plan) → Good (net_of p.layout)
-plan_good p = good p.layout p.some p.rising
+plan_good p = good p.layout p.sized.some p.rising

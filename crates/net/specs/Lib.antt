@@ -1,4 +1,5 @@
 pub mod Cables
+pub mod Grid
 pub mod Heads
 pub mod Layout
 pub mod Net

@@ -1,5 +1,6 @@
 -- Where a link goes into the order of serving, by the ranks in a list. Assumes nothing.
-use Rattle.std.specs.Prelude.{ℕ, suc, Bool, true, false, cond, List, [], ◌∷◌, Ok, Err, Result, nat_lt, slice_index}
+use Rattle.std.specs.Prelude.{ℕ, Bool, true, false, List, Ok, Err, Result, nat_lt, slice_index}
+use Rattle.std.specs.List.{position_or_len}
 use Rattle.net.specs.declared.serving.OrderError.{OrderError}
 use Rattle.net.specs.declared.serving.OrderError.TheVariants.{TooMany, Memory}
 
@@ -8,9 +9,8 @@ abbrev pub rank_of : List ℕ → ℕ → ℕ
 rank_of ranks k = slice_index ranks k
 
 -- the position of the first of lower rank than e, else the end
-unfoldable pub position : (ℕ → ℕ) → ℕ → List ℕ → ℕ
-position r e [] = 0
-position r e (x ∷ xs) = cond (nat_lt (r x) (r e)) 0 (suc (position r e xs))
+abbrev pub position : (ℕ → ℕ) → ℕ → List ℕ → ℕ
+position r e xs = position_or_len (λ x. nat_lt (r x) (r e)) xs
 
 -- no order, since there are too many links
 abbrev pub is_too_many : {X : Type 0} → Result X OrderError → Bool

@@ -1,80 +1,78 @@
-ghost use Rattle.std.specs.Prelude.{◌≡◌, ℕ, ◌+◌, ◌<◌, ◌≤◌, true, false, Decides, MatchOption};
-ghost use Rattle.net.specs.Layout.{Sized, FirstFall, FirstOfAll, AllRise, entry_at, rises_at};
+ghost use Rattle.std.specs.Prelude.{◌≡◌, slice_index, Decides, MatchOption, MatchResult};
+ghost use Rattle.net.specs.Layout.{Sized, FirstOfAll, AllRise, entry_at, rises_at};
+ghost use Rattle.net.specs.Planned.{Refuses};
 
-use crate::Entry;
 use crate::layout::Layout;
-
-// Channels are numbered by 16 bits, doors and places by 8.
-pub const MOST_CHANNELS: usize = 65535;
-
-pub const MOST_DOORS: usize = 256;
-
-pub const MOST_PLACES: usize = 256;
-
-pub const MOST_ROOM: u8 = 32;
+use crate::{Entry, PlanError, first_cell, limits};
 
 impl Layout {
-    pub(crate) fn sized(&self) -> bool
+    // Takes the layout, or tells the first cause to refuse it. Memory is not asked for here.
+    pub(crate) fn check(&self) -> Result<(), PlanError>
+        ensures { MatchResult result (λ _. Sized self.now × AllRise self.now) (λ e. Refuses self.now e) }
+    {
+        if !self.sized() {
+            return Err(PlanError::Sizes);
+        }
+        match self.falls() {
+            Some((channel, place)) => Err(PlanError::Falls { channel, place }),
+            None => Ok(()),
+        }
+    }
+
+    fn sized(&self) -> bool
         ensures { Decides result (Sized self.now) }
     {
-        self.links <= MOST_CHANNELS
-            && self.doors <= MOST_DOORS
-            && self.links + self.doors <= MOST_CHANNELS
-            && self.places <= MOST_PLACES
+        self.links <= limits::CHANNELS
+            && self.doors <= limits::DOORS
+            && self.links + self.doors <= limits::CHANNELS
+            && self.places <= limits::PLACES
             && 0 < self.room
-            && self.room <= MOST_ROOM
+            && self.room <= limits::ROOM
             && self.table.len() == (self.links + self.doors) * self.places
             && self.ranks.len() == self.links + self.doors
             && self.ends.len() == self.links
     }
 
+    // The first entry that does not lead to a link of higher rank, by channel and then by place.
+    fn falls(&self) -> Option<(usize, usize)>
+        requires { Sized self.now }
+        ensures { MatchOption result (AllRise self.now) (λ x. FirstOfAll self.now x.0 x.1) }
+    {
+        first_cell(
+            self.links + self.doors,
+            self.places,
+            |c, p| !self.rises(c, p),
+        )
+    }
+
+    // Whether a block in channel c for place p has come, or goes on by a link of higher rank.
+    fn rises(&self, c: usize, p: usize) -> bool
+        ensures { result ≡ rises_at self.now c p }
+    {
+        match self.entry(c, p) {
+            Entry::Here => true,
+            Entry::Link(e) => (e as usize) < self.links && self.rank(c) < self.rank(e as usize),
+        }
+    }
+
+    // Past the last rank: 0.
+    fn rank(&self, c: usize) -> u32
+        ensures { result ≡ slice_index self.now.ranks.items c }
+    {
+        self.ranks.get(c).copied().unwrap_or(0)
+    }
+
+    // Past the table's end no index is met, so outside of its rows and columns it says here.
     pub(crate) fn entry(&self, c: usize, p: usize) -> Entry
-        requires { (Sized self.now) × (c < self.now.links + self.now.doors) }
         ensures { result ≡ entry_at self.now.table.items self.now.places c p }
     {
         if p < self.places {
             self.table
-                .get(c * self.places + p)
+                .get(c.saturating_mul(self.places).saturating_add(p))
                 .copied()
                 .unwrap_or(Entry::Here)
         } else {
             Entry::Here
         }
-    }
-
-    fn rises(&self, c: usize, p: usize) -> bool
-        requires { (Sized self.now) × (c < self.now.links + self.now.doors) }
-        ensures { result ≡ rises_at self.now c p }
-    {
-        match self.entry(c, p) {
-            Entry::Here => true,
-            Entry::Link(e) => (e as usize) < self.links && self.ranks[c] < self.ranks[e as usize],
-        }
-    }
-
-    // The first place whose entry in the row of channel c does not rise.
-    fn row_falls(&self, c: usize) -> Option<usize>
-        requires { (Sized self.now) × (c < self.now.links + self.now.doors) }
-        ensures { MatchOption result ((p : ℕ) → rises_at self.now c p ≡ true) (λ p. FirstFall self.now c p) }
-    {
-        for p in 0..self.places {
-            if !self.rises(c, p) {
-                return Some(p);
-            }
-        }
-        None
-    }
-
-    // The first entry that does not lead to a link of higher rank, by channel and then by place.
-    pub(crate) fn falls(&self) -> Option<(usize, usize)>
-        requires { Sized self.now }
-        ensures { MatchOption result (AllRise self.now) (λ x. FirstOfAll self.now x.0 x.1) }
-    {
-        for c in 0..self.links + self.doors {
-            if let Some(p) = self.row_falls(c) {
-                return Some((c, p));
-            }
-        }
-        None
     }
 }

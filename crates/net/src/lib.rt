@@ -5,6 +5,7 @@
 
 mod check;
 mod error;
+mod grid;
 mod layout;
 pub mod limits;
 mod plan;
@@ -12,12 +13,13 @@ mod planning;
 mod serving;
 
 pub use error::PlanError;
+pub use grid::first_cell;
 pub use layout::Layout;
 pub use plan::Plan;
 pub use serving::{OrderError, serving_order};
 
 // A cable joins two switches.
-#[derive(Clone, Copy)]
+#[derive(Clone, Copy, Debug, PartialEq, Eq)]
 pub struct Cable {
     pub a: u8,
     pub b: u8,
@@ -25,7 +27,7 @@ pub struct Cable {
 
 // A block (packet): the door (injection port of a switch) at which it was let in, the place (ejection port
 // of a switch) that it is for, and its name.
-#[derive(Clone, Copy)]
+#[derive(Clone, Copy, Debug, PartialEq, Eq)]
 pub struct Block {
     pub door: u8,
     pub place: u8,
@@ -33,14 +35,14 @@ pub struct Block {
 }
 
 // An entry of a forwarding table: a block that stands in a channel has come, or goes on by a link.
-#[derive(Clone, Copy)]
+#[derive(Clone, Copy, Debug, PartialEq, Eq)]
 pub enum Entry {
     Here,
     Link(u16),
 }
 
 // A block that was handed over at its place, with the channel in which it stood and the round.
-#[derive(Clone, Copy)]
+#[derive(Clone, Copy, Debug, PartialEq, Eq)]
 pub struct Came {
     pub block: Block,
     pub channel: u16,

@@ -1,4 +1,10 @@
-// How large a hall or a foreign table may be.
+// How large a layout, a hall or a foreign table may be. Channels are numbered by 16 bits, doors and places by 8.
+pub const CHANNELS: usize = 65535;
+
+pub const DOORS: usize = 256;
+
+pub const PLACES: usize = 256;
+
 pub const SWITCHES: u8 = 64;
 
 pub const CABLES: u16 = 128;

@@ -11,26 +11,15 @@ impl Plan {
     pub fn new(heap: Global, layout: Layout) -> Result<Plan, PlanError>
         ensures { MatchResult result (λ p. (p.layout ≡ layout) × Sized layout × Good (net_of layout)) (λ e. Refuses layout e) }
     {
-        if !layout.sized() {
-            return Err(PlanError::Sizes);
-        }
-        if let Some((channel, place)) = layout.falls() {
-            return Err(PlanError::Falls { channel, place });
-        }
-        match serving_order(heap, layout.ranks.as_slice(), layout.links) {
-            Ok(order) => Ok(Plan { layout, order }),
-            Err(_) => Err(PlanError::Memory),
-        }
+        layout.check()?;
+        let order = serving_order(heap, &layout.ranks, layout.links)?;
+        Ok(Plan { layout, order })
     }
 
     // What the table says for a block for place p that stands first in channel c; outside of the table: here.
     pub fn entry(&self, c: usize, p: usize) -> Entry
         ensures { result ≡ (net_of self.now.layout).next c p }
     {
-        if c < self.layout.links + self.layout.doors {
-            self.layout.entry(c, p)
-        } else {
-            Entry::Here
-        }
+        self.layout.entry(c, p)
     }
 }

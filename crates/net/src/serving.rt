@@ -1,4 +1,4 @@
-ghost use Rattle.std.specs.Prelude.{◌≡◌, ℕ, ◌<◌, ◌||◌, length, IfOk, nat_lt, slice_index};
+ghost use Rattle.std.specs.Prelude.{◌≡◌, ◌<◌, ◌||◌, length, All, IfOk, nat_lt};
 ghost use Rattle.net.specs.Order.{InOrderOfRank, Serves, order};
 ghost use Rattle.net.specs.Position.{is_too_many, position, rank_of};
 ghost use Rattle.net.specs.declared.serving.OrderError.TheVariants.{Memory};
@@ -6,10 +6,10 @@ ghost use Rattle.net.specs.declared.serving.OrderError.TheVariants.{Memory};
 use std::alloc::{AllocError, AllocFailed, Global};
 
 // A link's number is a u16.
-const MOST: usize = 65_536;
+const MOST_LINKS: usize = u16::MAX as usize + 1;
 
 // Why there is no order of serving: more links than ranks or than numbers, or no memory.
-#[derive(Clone, Copy)]
+#[derive(Clone, Copy, Debug, PartialEq, Eq)]
 pub enum OrderError {
     TooMany,
     Memory,
@@ -39,7 +39,7 @@ pub fn serving_order(heap: Global, ranks: &[u32], links: usize) -> Result<Vec<u1
     ensures serves { IfOk result (λ v. Serves (rank_of ranks.now) links v.items) }
     ensures law { InOrderOfRank }
 {
-    if ranks.len() < links || MOST < links {
+    if ranks.len() < links || MOST_LINKS < links {
         return Err(OrderError::TooMany);
     }
     let mut served = Vec::with_capacity(heap, links)?;
@@ -53,13 +53,12 @@ pub fn serving_order(heap: Global, ranks: &[u32], links: usize) -> Result<Vec<u1
 // Where `link` goes into the order of those that are in it: before the first of lower rank, else at the end.
 fn position_of(ranks: &[u32], link: usize, served: &[u16]) -> usize
     requires ranked { link < length ranks.now }
-    requires known { (k : ℕ) → k < length served.now → slice_index served.now k < length ranks.now }
+    requires known { All (λ k. k < length ranks.now) served.now }
     ensures { result ≡ position (rank_of ranks.now) link served.now }
 {
-    for (i, other) in served.iter().enumerate() {
-        if ranks[*other as usize] < ranks[link] {
-            return i;
-        }
-    }
-    served.len()
+    let rank = ranks[link];
+    served
+        .iter()
+        .position(|other| ranks[*other as usize] < rank)
+        .unwrap_or(served.len())
 }

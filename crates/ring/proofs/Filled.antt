@@ -1,13 +1,15 @@
 -- The square of who hands blocks to whom, mark by mark. Assumes nothing.
-use Rattle.std.proofs.Common.{◌≡◌, ℕ, zero, suc, ◌+◌, ◌*◌, ◌<◌, ◌≤◌, Bool, true, false, ◌⊎◌, List, length, get_or, set, replicate, sym, refl, ap, ◌∙◌, subst, inl, inr, ⊎_elim, mul-le-mul_right, arith}
+use Rattle.std.proofs.Common.{◌≡◌, ℕ, zero, suc, ◌+◌, ◌*◌, ◌<◌, ◌≤◌, Bool, true, false, ◌⊎◌, List, length, get_or, set, replicate, vec_items, sym, refl, ap, ◌∙◌, subst, inl, inr, ⊎_elim, mul-le-mul_right, arith}
 use Rattle.std.proofs.lemmas.Nat.{mul-add-lt}
 use Rattle.std.proofs.lemmas.List.{get_or-set_same, get_or-set_other}
 use Rattle.std.proofs.lemmas.Bool.{cases_eq, cases_lt, cases_order, both_ways, ltb-true}
 use Rattle.net.specs.declared.Entry.{Entry}
 use Rattle.net.specs.declared.Entry.TheVariants.{Here, Link}
 use Rattle.net.specs.Layout.{entry_at}
+use Rattle.ring.specs.declared.dependencies.Dependencies.{Dependencies}
+use Rattle.ring.specs.Graph.{Agrees}
 use Rattle.ring.specs.Layers.{Feeds}
-use Rattle.ring.specs.Table.{Hands, Marked, Agrees, marked_by, names}
+use Rattle.ring.specs.Table.{Hands, InRange, IsRow, Marked, marked_by, names}
 use Rattle.ring.proofs.Outside.{hands_from}
 
 -- a place of the square has one row and one column
@@ -95,6 +97,24 @@ module _ (es : List Entry) (n m c p : ℕ) (rows : List Bool) (z : length rows �
                 (earlier y r o);
           }
 
+-- one entry of a row more, which names a channel
+pub mark_link : (es : List Entry) (n m c p e k : ℕ) (row : List Entry) (rows new : List Bool) → InRange es n m → IsRow es m c row → p < length row → get_or row p Here ≡ Link e → c < n → k ≡ n → length rows ≡ k * k → Marked es n m c p rows → new ≡ set rows (e * k + c) true → Marked es n m c (p + 1) new
+mark_link es n m c p e k row rows new range r h q l same z s is =
+    let size = r.size in
+    let pm : p < m = omega arith in
+    let at : Link e ≡ entry_at es m c p = sym q ∙ r.entry p pm in
+    let t : names n (Link e) ≡ true = subst (λ (x : Entry). names n x ≡ true) (sym at) (range c p) in
+    let square : length rows ≡ n * n = subst (λ (i : ℕ). length rows ≡ i * i) same z in
+    let now : new ≡ set rows (e * n + c) true = subst (λ (i : ℕ). new ≡ set rows (e * i + c) true) same is in
+    subst (λ (xs : List Bool). Marked es n m c (p + 1) xs) (sym now) (marked_more es n m c p rows square l s (Link e) pm at t)
+
+-- one that says here
+pub mark_here : (es : List Entry) (n m c p : ℕ) (row : List Entry) (rows : List Bool) → IsRow es m c row → p < length row → get_or row p Here ≡ Here → c < n → length rows ≡ n * n → Marked es n m c p rows → Marked es n m c (p + 1) rows
+mark_here es n m c p row rows r h q l z s =
+    let size = r.size in
+    let pm : p < m = omega arith in
+    marked_more es n m c p rows z l s Here pm (sym q ∙ r.entry p pm) refl
+
 -- the next row
 pub row_done : (es : List Entry) (n m c : ℕ) (rows : List Bool) → Marked es n m c m rows → Marked es n m (c + 1) 0 rows
 row_done es n m c rows s =
@@ -105,9 +125,10 @@ row_done es n m c rows s =
           (λ (k : (y ≡ c + 1) × (q < 0)). let l = k.1 in absurd (omega arith)) o) h g;
     }
 
-pub all_marked : (es : List Entry) (n m : ℕ) (rows : List Bool) → length es ≡ n * m → length rows ≡ n * n → Marked es n m n 0 rows → Agrees es n m rows
-all_marked es n m rows z k s =
-    record { size = k; only = s.only; each = λ y x h. s.each y h.0 x (inl (hands_from es n m y x z h)) h.1 h.2 }
+pub all_marked : (es : List Entry) (n m : ℕ) (g : Dependencies) → length es ≡ n * m → g.channels ≡ n → Marked es n m n 0 (vec_items g.marks) → Agrees es n m g
+all_marked es n m g z q s =
+    let t : Marked es g.channels m n 0 (vec_items g.marks) = subst (λ (i : ℕ). Marked es i m n 0 (vec_items g.marks)) (sym q) s in
+    record { channels = q; only = t.only; each = λ y x h. t.each y h.0 x (inl (hands_from es n m y x z h)) h.1 h.2 }
 
 pub all_same : {X : Type 0} (k i : ℕ) (d : X) → get_or (replicate k d) i d ≡ d
 all_same zero i d = refl

@@ -15,7 +15,7 @@ past_table es n m c p z h =
     let g : n * m ≤ c * m = mul-le-mul_right m h in
     cond_both (ltb p m) (get_or es (c * m + p) Here) Here (λ (x : Entry). x ≡ Here) (λ b. get_or_past es (c * m + p) Here (omega arith)) (λ b. refl)
 
-here_link : (x : Entry) (e : ℕ) → x ≡ Here → x ≡ Link e → ⊥
+pub here_link : (x : Entry) (e : ℕ) → x ≡ Here → x ≡ Link e → ⊥
 here_link x e p q = let z : ◌≡◌ {A = ℕ} 0 1 = cc in omega arith
 
 -- a channel that hands blocks on has a row, and the place a column

@@ -7,22 +7,16 @@ ghost use Rattle.roads.specs.Laws.{EveryRoadIsSoon, LeastIsLeast, ShortestRoads}
 ghost use Rattle.std.specs.Prelude.{ℕ};
 
 // The least number that passes a test is the one that passes while none below it does.
-pub fn least_is_least() -> u8
+pub fn least_is_least()
     ensures { LeastIsLeast }
-{
-    0
-}
+{}
 
 // A road as long as `shortest` says exists, none is shorter, and `first` is the lowest link that one begins with.
-pub fn roads_are_shortest() -> u8
+pub fn roads_are_shortest()
     ensures { ShortestRoads ℕ }
-{
-    0
-}
+{}
 
 // Among n states, where there is any road there is one of fewer than n links.
-pub fn every_road_is_soon() -> u8
+pub fn every_road_is_soon()
     ensures { EveryRoadIsSoon }
-{
-    0
-}
+{}

@@ -1,9 +1,7 @@
 -- One link more and one layer more while legal roads are looked for. Assumes nothing.
-use Rattle.std.proofs.Common.{◌≡◌, ℕ, suc, ◌+◌, ◌-◌, ◌*◌, ◌<◌, Bool, true, false, cond, not, ◌&&◌, ◌||◌, ltb, List, length, get_or, sym, refl, ap, ◌∙◌, ⊎_elim, arith}
+use Rattle.std.proofs.Common.{◌≡◌, ℕ, suc, ◌+◌, ◌-◌, ◌<◌, Bool, true, false, cond, not, ◌&&◌, ◌||◌, ltb, List, sym, refl, ap, ◌∙◌, ⊎_elim, arith}
 use lib.Bits.{bit_or}
-use Rattle.std.proofs.lemmas.List.{get_or-set_same, get_or-set_other}
 use Rattle.std.proofs.lemmas.Bool.{lt-ltb, le-ltb, cases_Bool, cond-true, cond-false, and_from, and_left, and_right, or_parts, or_from, or_left, not_from_true, not_from_false}
-use Rattle.net.specs.declared.Entry.{Entry}
 use Rattle.net.specs.declared.Entry.TheVariants.{Here, Link}
 use Rattle.roads.specs.Numbers.{some}
 use Rattle.roads.specs.Roads.{within}
@@ -14,8 +12,9 @@ use Rattle.graph.specs.Sets.{has}
 use Rattle.graph.proofs.Bits.{has_or}
 use Rattle.graph.proofs.Adding.{some_more, or_nothing}
 use Rattle.tree.specs.Legal.{legal, stands}
+use Rattle.table.specs.declared.states.State.{State}
 use Rattle.table.specs.Kept.{most, onward}
-use Rattle.table.specs.Cells.{state_of, index_of, reached_by, Cell, Held, Relaxed}
+use Rattle.table.specs.Cells.{state_of, index_of, reached_at, before_at, cell_at, reached_by, Cell, Held, Relaxed}
 use Rattle.table.proofs.Follow.{away_at}
 
 pub high_state : (n s : ℕ) → s < n → state_of n s ≡ (true, s)
@@ -44,72 +43,71 @@ module _ (g : Graph) (up : ℕ → Bool) (j k : ℕ) where
       ∙ sym (or_turn (within (legal g up) (stands p) j x) (some (goes (legal g up) (stands p) j x) k) ((legal g up).may x k && within (legal g up) (stands p) j (up k, g.to k)))
 
   -- a link that may not be taken changes nothing
-  pub idle : (sets : List ℕ) (cells : List Entry) (i : ℕ) → (legal g up).may (state_of g.n i) k ≡ false → Cell g up j k sets cells i → Cell g up j (k + 1) sets cells i
-  idle sets cells i e h = record {
+  pub idle : (ss : List State) (i : ℕ) → (legal g up).may (state_of g.n i) k ≡ false → Cell g up j k ss i → Cell g up j (k + 1) ss i
+  idle ss i e h = record {
     reached = λ p l. h.reached p l ∙ or_nothing (reached_by g up p j k (state_of g.n i))
         ∙ ap (λ (b : Bool). reached_by g up p j k (state_of g.n i) || b) (sym (and_left ((legal g up).may (state_of g.n i) k) (within (legal g up) (stands p) j (up k, g.to k)) e))
         ∙ sym (reached_more p (state_of g.n i));
     entry = h.entry;
   }
 
-  module _ (old sets sets' : List ℕ) (cells cells' : List Entry) (x y : ℕ) (r : Relaxed g.n old sets cells x y k sets' cells') where
-    pub untouched : (m i : ℕ) → (i ≡ x → ⊥) → Cell g up j m sets cells i → Cell g up j m sets' cells' i
+  module _ (ss ss' : List State) (x y : ℕ) (r : Relaxed g.n ss x y k ss') where
+    pub untouched : (m i : ℕ) → (i ≡ x → ⊥) → Cell g up j m ss i → Cell g up j m ss' i
     untouched m i ne h =
-        let v = bit_or (get_or sets x 0) (get_or old y 0) in
-        let s : get_or sets' i 0 ≡ get_or sets i 0 = ap (λ (xs : List ℕ). get_or xs i 0) r.added ∙ get_or-set_other sets x i (bit_or (get_or sets x 0) (get_or old y 0)) 0 ne in
+        let s = r.other i ne in
         record {
           reached = λ p l. ap (λ (w : ℕ). has w p) s ∙ h.reached p l;
-          entry = λ p l. r.rest i p ne l ∙ h.entry p l ∙ ap (λ (w : ℕ). cond (has w p) (onward g up p (state_of g.n i)) Here) (sym s);
+          entry = λ p l. r.rest i p ne ∙ h.entry p l ∙ ap (λ (w : ℕ). cond (has w p) (onward g up p (state_of g.n i)) Here) (sym s);
         }
 
     -- a link that may be taken is looked at
-    pub looked : suc j < most g → k < g.links → x < length sets → y < g.n + g.n → Held g up j old → state_of g.n y ≡ (up k, g.to k) →
-        (legal g up).may (state_of g.n x) k ≡ true → Cell g up j k sets cells x → Cell g up j (k + 1) sets' cells' x
-    looked small lk lx ly held lands may h = record { reached = reached'; entry = entry' }
+    pub looked : suc j < most g → k < g.links → y < g.n + g.n → Held g up j ss → state_of g.n y ≡ (up k, g.to k) →
+        (legal g up).may (state_of g.n x) k ≡ true → Cell g up j k ss x → Cell g up j (k + 1) ss' x
+    looked small lk ly held lands may h = record { reached = reached'; entry = entry' }
       where
-        s : get_or sets' x 0 ≡ bit_or (get_or sets x 0) (get_or old y 0)
-        s = ap (λ (xs : List ℕ). get_or xs x 0) r.added ∙ get_or-set_same sets x (bit_or (get_or sets x 0) (get_or old y 0)) 0 lx
+        s : reached_at ss' x ≡ bit_or (reached_at ss x) (before_at ss y)
+        s = r.added
 
-        both : (p : ℕ) → has (get_or sets' x 0) p ≡ (has (get_or sets x 0) p || has (get_or old y 0) p)
-        both p = ap (λ (w : ℕ). has w p) s ∙ has_or (get_or sets x 0) (get_or old y 0) p
+        both : (p : ℕ) → has (reached_at ss' x) p ≡ (has (reached_at ss x) p || has (before_at ss y) p)
+        both p = ap (λ (w : ℕ). has w p) s ∙ has_or (reached_at ss x) (before_at ss y) p
 
-        more : (p : ℕ) → p < g.n → has (get_or old y 0) p ≡ within (legal g up) (stands p) j (up k, g.to k)
+        more : (p : ℕ) → p < g.n → has (before_at ss y) p ≡ within (legal g up) (stands p) j (up k, g.to k)
         more p l = held y p ly l ∙ ap (within (legal g up) (stands p) j) lands
 
-        goes_k : (p : ℕ) → p < g.n → has (get_or old y 0) p ≡ ((legal g up).may (state_of g.n x) k && within (legal g up) (stands p) j (up k, g.to k))
+        goes_k : (p : ℕ) → p < g.n → has (before_at ss y) p ≡ ((legal g up).may (state_of g.n x) k && within (legal g up) (stands p) j (up k, g.to k))
         goes_k p l = more p l ∙ ap (λ (b : Bool). b && within (legal g up) (stands p) j (up k, g.to k)) (sym may)
 
-        reached' : (p : ℕ) → p < g.n → has (get_or sets' x 0) p ≡ reached_by g up p j (k + 1) (state_of g.n x)
+        reached' : (p : ℕ) → p < g.n → has (reached_at ss' x) p ≡ reached_by g up p j (k + 1) (state_of g.n x)
         reached' p l =
-            both p ∙ ap (λ (b : Bool). b || has (get_or old y 0) p) (h.reached p l)
+            both p ∙ ap (λ (b : Bool). b || has (before_at ss y) p) (h.reached p l)
             ∙ ap (λ (b : Bool). reached_by g up p j k (state_of g.n x) || b) (goes_k p l) ∙ sym (reached_more p (state_of g.n x))
 
-        old_place : (p : ℕ) → p < g.n → has (get_or sets x 0) p ≡ true → get_or cells' (x * g.n + p) Here ≡ cond (has (get_or sets' x 0) p) (onward g up p (state_of g.n x)) Here
+        old_place : (p : ℕ) → p < g.n → has (reached_at ss x) p ≡ true → cell_at ss' x p ≡ cond (has (reached_at ss' x) p) (onward g up p (state_of g.n x)) Here
         old_place p l e =
             r.row p l
-            ∙ cond-false (has (get_or old y 0) p && not (has (get_or sets x 0) p)) (Link k) (get_or cells (x * g.n + p) Here) (and_right (has (get_or old y 0) p) (not (has (get_or sets x 0) p)) (not_from_true (has (get_or sets x 0) p) e))
+            ∙ cond-false (has (before_at ss y) p && not (has (reached_at ss x) p)) (Link k) (cell_at ss x p) (and_right (has (before_at ss y) p) (not (has (reached_at ss x) p)) (not_from_true (has (reached_at ss x) p) e))
             ∙ h.entry p l
-            ∙ cond-true (has (get_or sets x 0) p) (onward g up p (state_of g.n x)) Here e
-            ∙ sym (cond-true (has (get_or sets' x 0) p) (onward g up p (state_of g.n x)) Here (both p ∙ or_left (has (get_or sets x 0) p) (has (get_or old y 0) p) e))
+            ∙ cond-true (has (reached_at ss x) p) (onward g up p (state_of g.n x)) Here e
+            ∙ sym (cond-true (has (reached_at ss' x) p) (onward g up p (state_of g.n x)) Here (both p ∙ or_left (has (reached_at ss x) p) (has (before_at ss y) p) e))
 
-        new_place : (p : ℕ) → p < g.n → has (get_or sets x 0) p ≡ false → has (get_or old y 0) p ≡ true → get_or cells' (x * g.n + p) Here ≡ cond (has (get_or sets' x 0) p) (onward g up p (state_of g.n x)) Here
+        new_place : (p : ℕ) → p < g.n → has (reached_at ss x) p ≡ false → has (before_at ss y) p ≡ true → cell_at ss' x p ≡ cond (has (reached_at ss' x) p) (onward g up p (state_of g.n x)) Here
         new_place p l e o =
             let q = or_parts (within (legal g up) (stands p) j (state_of g.n x)) (some (goes (legal g up) (stands p) j (state_of g.n x)) k) (sym (h.reached p l) ∙ e) in
             let f = first_found (legal g up) (stands p) (most g) j (state_of g.n x) k small lk q.0 (some_none (goes (legal g up) (stands p) j (state_of g.n x)) k q.1) (sym (goes_k p l) ∙ o) in
             let d = f.1 in
             r.row p l
-            ∙ cond-true (has (get_or old y 0) p && not (has (get_or sets x 0) p)) (Link k) (get_or cells (x * g.n + p) Here) (and_from (has (get_or old y 0) p) (not (has (get_or sets x 0) p)) o (not_from_false (has (get_or sets x 0) p) e))
+            ∙ cond-true (has (before_at ss y) p && not (has (reached_at ss x) p)) (Link k) (cell_at ss x p) (and_from (has (before_at ss y) p) (not (has (reached_at ss x) p)) o (not_from_false (has (reached_at ss x) p) e))
             ∙ ap (λ (i : ℕ). Link i) f.2
             ∙ sym (away_at g up p (state_of g.n x) f.0 (omega arith))
-            ∙ sym (cond-true (has (get_or sets' x 0) p) (onward g up p (state_of g.n x)) Here (both p ∙ ap (λ (b : Bool). b || has (get_or old y 0) p) e ∙ o))
+            ∙ sym (cond-true (has (reached_at ss' x) p) (onward g up p (state_of g.n x)) Here (both p ∙ ap (λ (b : Bool). b || has (before_at ss y) p) e ∙ o))
 
-        no_place : (p : ℕ) → p < g.n → has (get_or sets x 0) p ≡ false → has (get_or old y 0) p ≡ false → get_or cells' (x * g.n + p) Here ≡ cond (has (get_or sets' x 0) p) (onward g up p (state_of g.n x)) Here
+        no_place : (p : ℕ) → p < g.n → has (reached_at ss x) p ≡ false → has (before_at ss y) p ≡ false → cell_at ss' x p ≡ cond (has (reached_at ss' x) p) (onward g up p (state_of g.n x)) Here
         no_place p l e o =
             r.row p l
-            ∙ cond-false (has (get_or old y 0) p && not (has (get_or sets x 0) p)) (Link k) (get_or cells (x * g.n + p) Here) (and_left (has (get_or old y 0) p) (not (has (get_or sets x 0) p)) o)
+            ∙ cond-false (has (before_at ss y) p && not (has (reached_at ss x) p)) (Link k) (cell_at ss x p) (and_left (has (before_at ss y) p) (not (has (reached_at ss x) p)) o)
             ∙ h.entry p l
-            ∙ cond-false (has (get_or sets x 0) p) (onward g up p (state_of g.n x)) Here e
-            ∙ sym (cond-false (has (get_or sets' x 0) p) (onward g up p (state_of g.n x)) Here (both p ∙ or_from (has (get_or sets x 0) p) (has (get_or old y 0) p) e o))
+            ∙ cond-false (has (reached_at ss x) p) (onward g up p (state_of g.n x)) Here e
+            ∙ sym (cond-false (has (reached_at ss' x) p) (onward g up p (state_of g.n x)) Here (both p ∙ or_from (has (reached_at ss x) p) (has (before_at ss y) p) e o))
 
-        entry' : (p : ℕ) → p < g.n → get_or cells' (x * g.n + p) Here ≡ cond (has (get_or sets' x 0) p) (onward g up p (state_of g.n x)) Here
-        entry' p l = ⊎_elim (λ e. old_place p l e) (λ e. ⊎_elim (λ o. new_place p l e o) (λ o. no_place p l e o) (cases_Bool (has (get_or old y 0) p))) (cases_Bool (has (get_or sets x 0) p))
+        entry' : (p : ℕ) → p < g.n → cell_at ss' x p ≡ cond (has (reached_at ss' x) p) (onward g up p (state_of g.n x)) Here
+        entry' p l = ⊎_elim (λ e. old_place p l e) (λ e. ⊎_elim (λ o. new_place p l e o) (λ o. no_place p l e o) (cases_Bool (has (before_at ss y) p))) (cases_Bool (has (reached_at ss x) p))

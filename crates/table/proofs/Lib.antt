@@ -1,9 +1,14 @@
 pub mod Follow
 pub mod Served
+pub mod Trees
 pub mod Parts
 pub mod Layering
 pub mod Looking
 pub mod Sweeping
+pub mod Stepping
+pub mod Swept
+pub mod Starting
+pub mod Finding
 pub mod Marking
 pub mod Walking
 pub mod Filling

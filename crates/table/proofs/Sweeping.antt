@@ -1,18 +1,16 @@
 -- The first layer, one layer more, and what all layers find. Assumes nothing.
-use Rattle.std.proofs.Common.{◌≡◌, ℕ, zero, suc, ◌+◌, ◌-◌, ◌*◌, ◌%◌, ◌^◌, ◌<◌, ◌≤◌, Bool, true, false, cond, ◌||◌, eqb, ltb, ◌⊎◌, List, length, get_or, set, sym, refl, ap, ◌∙◌, subst, inl, inr, ⊎_elim, arith}
-use Rattle.std.proofs.lemmas.List.{get_or-set_same, get_or-set_other}
-use Rattle.std.proofs.lemmas.Bool.{lt-ltb, le-ltb, cases_Bool, cases_lt, cases_eq, cond-true, cond-false, cond_both, both_ways, and_parts, and_from}
-use Rattle.net.specs.declared.Entry.{Entry}
+use Rattle.std.proofs.Common.{◌≡◌, ℕ, zero, suc, ◌+◌, ◌-◌, ◌<◌, ◌≤◌, Bool, true, false, cond, ◌||◌, eqb, ltb, ◌⊎◌, List, sym, refl, ap, ◌∙◌, subst, inl, inr, ⊎_elim, arith}
+use Rattle.std.proofs.lemmas.Bool.{lt-ltb, le-ltb, cases_Bool, cases_lt, cond-true, cond-false, cond_both, both_ways, and_parts, and_from}
 use Rattle.net.specs.declared.Entry.TheVariants.{Here, Link}
 use Rattle.roads.specs.Roads.{within, shortest, first}
 use Rattle.roads.proofs.Roads.{goes, within_layer, within_zero, within_cases, within_more, goes_within, goal_within, shortest_within}
 use Rattle.graph.specs.Graph.{Graph}
 use Rattle.graph.specs.Sets.{has}
-use Rattle.graph.proofs.Bits.{has_shl}
 use Rattle.graph.proofs.Adding.{some_start, or_nothing}
 use Rattle.tree.specs.Legal.{legal, stands}
+use Rattle.table.specs.declared.states.State.{State}
 use Rattle.table.specs.Kept.{most, onward}
-use Rattle.table.specs.Cells.{state_of, index_of, reached_by, Layer, Held, Found}
+use Rattle.table.specs.Cells.{state_of, index_of, reached_at, before_at, cell_at, reached_by, Layer, Held, Found}
 use Rattle.table.proofs.Follow.{here_at}
 use Rattle.table.proofs.Layering.{index_state}
 
@@ -26,50 +24,39 @@ state_small n i l = cond_both (ltb i n) (true, i) (false, i - n) (λ (x : Bool �
     ltb_ge : (a b : ℕ) → ltb a b ≡ false → b ≤ a
     ltb_ge a b e = ⊎_elim (λ (h : a < b). absurd (both_ways (ltb a b) e (lt-ltb a b h))) (λ h. h) (cases_lt a b)
 
-pub started_more : (n : ℕ) (sets : List ℕ) (s v : ℕ) → s < length sets → v < 64 → v ≡ (state_of n s).1 → ((i t : ℕ) → i < s → t < 64 → has (get_or sets i 0) t ≡ eqb (state_of n i).1 t) →
-    (i t : ℕ) → i < s + 1 → t < 64 → has (get_or (set sets s ((1 * 2 ^ v) % 2 ^ 64)) i 0) t ≡ eqb (state_of n i).1 t
-started_more n sets s v l few q h i t o w = ⊎_elim here other (cases_eq i s)
-  where
-    here : i ≡ s → has (get_or (set sets s ((1 * 2 ^ v) % 2 ^ 64)) i 0) t ≡ eqb (state_of n i).1 t
-    here e = subst (λ (j : ℕ). has (get_or (set sets s ((1 * 2 ^ v) % 2 ^ 64)) j 0) t ≡ eqb (state_of n j).1 t) (sym e)
-        (ap (λ (u : ℕ). has u t) (get_or-set_same sets s ((1 * 2 ^ v) % 2 ^ 64) 0 l) ∙ has_shl v t few ∙ ap (λ (u : ℕ). eqb u t) q)
-
-    other : (i ≡ s → ⊥) → has (get_or (set sets s ((1 * 2 ^ v) % 2 ^ 64)) i 0) t ≡ eqb (state_of n i).1 t
-    other e = ap (λ (u : ℕ). has u t) (get_or-set_other sets s i ((1 * 2 ^ v) % 2 ^ 64) 0 e) ∙ h i t (omega arith) w
-
 module _ (g : Graph) (up : ℕ → Bool) where
   reached_none : (p j : ℕ) (x : Bool × ℕ) → reached_by g up p j 0 x ≡ within (legal g up) (stands p) j x
   reached_none p j x = ap (λ (b : Bool). within (legal g up) (stands p) j x || b) (some_start (goes (legal g up) (stands p) j x)) ∙ sym (or_nothing (within (legal g up) (stands p) j x))
 
-  pub held_of : (j : ℕ) (sets : List ℕ) (cells : List Entry) → Layer g up j 0 sets cells → Held g up j sets
-  held_of j sets cells h i p l o = (h i l).reached p o ∙ reached_none p j (state_of g.n i)
+  pub reached_of : (j : ℕ) (ss : List State) → Layer g up j 0 ss → (i p : ℕ) → i < g.n + g.n → p < g.n → has (reached_at ss i) p ≡ within (legal g up) (stands p) j (state_of g.n i)
+  reached_of j ss h i p l o = (h i l).reached p o ∙ reached_none p j (state_of g.n i)
 
-  pub first_layer : (sets : List ℕ) (cells : List Entry) → g.n ≤ 64 → ((i t : ℕ) → i < g.n + g.n → t < 64 → has (get_or sets i 0) t ≡ eqb (state_of g.n i).1 t) →
-      ((i : ℕ) → get_or cells i Here ≡ Here) → Layer g up 0 0 sets cells
-  first_layer sets cells few s e i l = record {
+  pub first_layer : (ss : List State) → g.n ≤ 64 → ((i t : ℕ) → i < g.n + g.n → t < 64 → has (reached_at ss i) t ≡ eqb (state_of g.n i).1 t) →
+      ((i p : ℕ) → cell_at ss i p ≡ Here) → Layer g up 0 0 ss
+  first_layer ss few s e i l = record {
     reached = λ p o. s i p l (omega arith) ∙ sym (within_zero (legal g up) (stands p) (state_of g.n i)) ∙ sym (reached_none p 0 (state_of g.n i));
-    entry = λ p o. e (i * g.n + p) ∙ sym (⊎_elim
-        (λ (t : has (get_or sets i 0) p ≡ true). cond-true (has (get_or sets i 0) p) (onward g up p (state_of g.n i)) Here t ∙ here_at g up p (state_of g.n i) (sym (s i p l (omega arith)) ∙ t))
-        (λ t. cond-false (has (get_or sets i 0) p) (onward g up p (state_of g.n i)) Here t)
-        (cases_Bool (has (get_or sets i 0) p)));
+    entry = λ p o. e i p ∙ sym (⊎_elim
+        (λ (t : has (reached_at ss i) p ≡ true). cond-true (has (reached_at ss i) p) (onward g up p (state_of g.n i)) Here t ∙ here_at g up p (state_of g.n i) (sym (s i p l (omega arith)) ∙ t))
+        (λ t. cond-false (has (reached_at ss i) p) (onward g up p (state_of g.n i)) Here t)
+        (cases_Bool (has (reached_at ss i) p)));
   }
 
-  pub next_layer : (j : ℕ) (sets : List ℕ) (cells : List Entry) → Layer g up j g.links sets cells → Layer g up (suc j) 0 sets cells
-  next_layer j sets cells h i l = record {
+  pub next_layer : (j : ℕ) (ss : List State) → Layer g up j g.links ss → Layer g up (suc j) 0 ss
+  next_layer j ss h i l = record {
     reached = λ p o. (h i l).reached p o ∙ sym (within_layer (legal g up) (stands p) j (state_of g.n i)) ∙ sym (reached_none p (suc j) (state_of g.n i));
     entry = (h i l).entry;
   }
 
-  pub all_found : (j : ℕ) (sets : List ℕ) (cells : List Entry) → j ≡ g.n + g.n → Layer g up j 0 sets cells → Found g up cells
-  all_found j sets cells q h i p l o = (h i l).entry p o ∙ ⊎_elim yes₁ not₁ (cases_Bool (has (get_or sets i 0) p))
+  pub all_found : (j : ℕ) (ss : List State) → j ≡ g.n + g.n → Layer g up j 0 ss → Found g up ss
+  all_found j ss q h i p l o = (h i l).entry p o ∙ ⊎_elim yes₁ not₁ (cases_Bool (has (reached_at ss i) p))
     where
-      is : has (get_or sets i 0) p ≡ within (legal g up) (stands p) j (state_of g.n i)
-      is = held_of j sets cells h i p l o
+      is : has (reached_at ss i) p ≡ within (legal g up) (stands p) j (state_of g.n i)
+      is = reached_of j ss h i p l o
 
-      yes₁ : has (get_or sets i 0) p ≡ true → cond (has (get_or sets i 0) p) (onward g up p (state_of g.n i)) Here ≡ onward g up p (state_of g.n i)
-      yes₁ e = cond-true (has (get_or sets i 0) p) (onward g up p (state_of g.n i)) Here e
+      yes₁ : has (reached_at ss i) p ≡ true → cond (has (reached_at ss i) p) (onward g up p (state_of g.n i)) Here ≡ onward g up p (state_of g.n i)
+      yes₁ e = cond-true (has (reached_at ss i) p) (onward g up p (state_of g.n i)) Here e
 
-      never : has (get_or sets i 0) p ≡ false → onward g up p (state_of g.n i) ≡ Here
+      never : has (reached_at ss i) p ≡ false → onward g up p (state_of g.n i) ≡ Here
       never e =
           let w : within (legal g up) (stands p) j (state_of g.n i) ≡ false = sym is ∙ e in
           let a : stands p (state_of g.n i) ≡ false = ⊎_elim (λ (s : stands p (state_of g.n i) ≡ true). absurd (both_ways (within (legal g up) (stands p) j (state_of g.n i)) w (goal_within (legal g up) (stands p) j (state_of g.n i) s))) (λ s. s) (cases_Bool (stands p (state_of g.n i))) in
@@ -77,8 +64,8 @@ module _ (g : Graph) (up : ℕ → Bool) where
           cond-false (stands p (state_of g.n i)) Here (cond (ltb (shortest (legal g up) (stands p) (most g) (state_of g.n i)) (most g)) (Link (first (legal g up) (stands p) (most g) (state_of g.n i))) Here) a
           ∙ cond-false (ltb (shortest (legal g up) (stands p) (most g) (state_of g.n i)) (most g)) (Link (first (legal g up) (stands p) (most g) (state_of g.n i))) Here (le-ltb (shortest (legal g up) (stands p) (most g) (state_of g.n i)) (most g) b)
 
-      not₁ : has (get_or sets i 0) p ≡ false → cond (has (get_or sets i 0) p) (onward g up p (state_of g.n i)) Here ≡ onward g up p (state_of g.n i)
-      not₁ e = cond-false (has (get_or sets i 0) p) (onward g up p (state_of g.n i)) Here e ∙ sym (never e)
+      not₁ : has (reached_at ss i) p ≡ false → cond (has (reached_at ss i) p) (onward g up p (state_of g.n i)) Here ≡ onward g up p (state_of g.n i)
+      not₁ e = cond-false (has (reached_at ss i) p) (onward g up p (state_of g.n i)) Here e ∙ sym (never e)
 
 module _ (g : Graph) (up : ℕ → Bool) (ends : (k : ℕ) → k < g.links → g.to k < g.n) where
   -- a layer that adds nothing to any state
@@ -122,15 +109,15 @@ module _ (g : Graph) (up : ℕ → Bool) (ends : (k : ℕ) → k < g.links → g
       quiet_all j h m p lp i l (quiet_on j h m p lp i l (subst (λ (v : ℕ). within (legal g up) (stands p) v (state_of g.n i) ≡ true) (let q : suc m + j ≡ suc (m + j) = omega arith in q) e))
 
   -- a layer that left the sets as they were was the last
-  pub still_found : (j : ℕ) (sets sets' : List ℕ) (cells cells' : List Entry) → sets ≡ sets' → j < g.n + g.n → Layer g up j 0 sets cells → Layer g up (suc j) 0 sets' cells' → Found g up cells'
+  pub still_found : (j : ℕ) (ss : List State) → ((i : ℕ) → before_at ss i ≡ reached_at ss i) → j < g.n + g.n → Held g up j ss → Layer g up (suc j) 0 ss → Found g up ss
   unfolding Quiet
-  still_found j sets sets' cells cells' q lj a b = all_found g up (g.n + g.n) sets' cells' refl last
+  still_found j ss q lj a b = all_found g up (g.n + g.n) ss refl last
     where
-      before : (i p : ℕ) → i < g.n + g.n → p < g.n → has (get_or sets' i 0) p ≡ within (legal g up) (stands p) j (state_of g.n i)
-      before i p l o = ap (λ (xs : List ℕ). has (get_or xs i 0) p) (sym q) ∙ held_of g up j sets cells a i p l o
+      before : (i p : ℕ) → i < g.n + g.n → p < g.n → has (reached_at ss i) p ≡ within (legal g up) (stands p) j (state_of g.n i)
+      before i p l o = ap (λ (v : ℕ). has v p) (sym (q i)) ∙ a i p l o
 
-      later : (i p : ℕ) → i < g.n + g.n → p < g.n → has (get_or sets' i 0) p ≡ within (legal g up) (stands p) (suc j) (state_of g.n i)
-      later i p l o = held_of g up (suc j) sets' cells' b i p l o
+      later : (i p : ℕ) → i < g.n + g.n → p < g.n → has (reached_at ss i) p ≡ within (legal g up) (stands p) (suc j) (state_of g.n i)
+      later i p l o = reached_of g up (suc j) ss b i p l o
 
       quiet : (p : ℕ) → p < g.n → (i : ℕ) → i < g.n + g.n → within (legal g up) (stands p) (suc j) (state_of g.n i) ≡ true → within (legal g up) (stands p) j (state_of g.n i) ≡ true
       quiet p o i l e = sym (before i p l o) ∙ later i p l o ∙ e
@@ -145,7 +132,7 @@ module _ (g : Graph) (up : ℕ → Bool) (ends : (k : ℕ) → k < g.links → g
           (λ t. t) (cases_Bool (within (legal g up) (stands p) (g.n + g.n) (state_of g.n i)))))
           (cases_Bool (within (legal g up) (stands p) (suc j) (state_of g.n i)))
 
-      last : Layer g up (g.n + g.n) 0 sets' cells'
+      last : Layer g up (g.n + g.n) 0 ss
       last i l = record {
         reached = λ p o. later i p l o ∙ level_off i p l o ∙ sym (reached_none g up p (g.n + g.n) (state_of g.n i));
         entry = (b i l).entry;

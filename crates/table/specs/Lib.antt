@@ -1,5 +1,6 @@
 pub mod Kept
 pub mod Cells
+pub mod Swept
 pub mod Marked
 pub mod Laid
 pub mod Laws

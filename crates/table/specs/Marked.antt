@@ -1,26 +1,12 @@
--- Which links are marked as met, while roads from doors are walked. Assumes nothing.
-use Rattle.std.specs.Prelude.{◌≡◌, ℕ, ◌+◌, ◌*◌, ◌<◌, ◌≤◌, Bool, true, cond, List, length, ◌≢◌, slice_index, slice_index_or}
+-- Which links are marked as met, while roads from doors are walked; and what is made of a tree. Assumes nothing.
+use Rattle.std.specs.Prelude.{◌≡◌, ℕ, ◌+◌, ◌*◌, ◌<◌, Bool, true, List, length, ◌≢◌, slice_index, slice_index_or}
 use Rattle.net.specs.declared.Entry.{Entry}
 use Rattle.net.specs.declared.Entry.TheVariants.{Here, Link}
-use Rattle.roads.specs.Roads.{shortest}
-use Rattle.graph.specs.Graph.{Graph, graph_by}
-use Rattle.graph.specs.Layers.{Ends}
+use Rattle.graph.specs.Graph.{Graph}
 use Rattle.graph.specs.Sets.{has}
-use Rattle.tree.specs.Legal.{legal, stands}
-use Rattle.tree.specs.Planted.{up_by}
-use Rattle.table.specs.Kept.{most, start, whole, met, kept}
-use Rattle.table.specs.Cells.{Found}
-
--- the cells say how to go on, and every place is near enough from every door
-pub record Ready (n : ℕ) (fs ts : List ℕ) (us : List Bool) (es : List Entry) : Type 0 where
-  pub few : n ≤ 64
-  pub ends : Ends n fs ts
-  pub short : length fs ≤ 256
-  pub ups : length us ≡ length fs
-  pub size : length es ≡ (n + n) * n
-  pub found : Found (graph_by n fs ts) (up_by us) es
-  pub near : (s p : ℕ) → s < n → p < n →
-      shortest (legal (graph_by n fs ts) (up_by us)) (stands p) (most (graph_by n fs ts)) (start (graph_by n fs ts) (up_by us) (length fs + s)) < most (graph_by n fs ts)
+use Rattle.tree.specs.Planted.{graph_in, up_in}
+use Rattle.tree.specs.declared.planted.Tree.{Tree}
+use Rattle.table.specs.Kept.{whole, met, kept}
 
 -- link k is marked for place p
 abbrev pub marked : List ℕ → ℕ → ℕ → Bool
@@ -48,30 +34,17 @@ pub record Walks (g : Graph) (up : ℕ → Bool) (s : ℕ) (P : ℕ → Type 0) 
   pub closed : Closed g up ms → Closed g up ns
   pub opened : (p : ℕ) → P p → Opened g up ns s p
 
--- the row that begins at `a` was filled from the cells that begin at `b`, where a place is in the set w; all else is as it was
-pub record Copied (n : ℕ) (table : List Entry) (a : ℕ) (cells : List Entry) (b w : ℕ) (table' : List Entry) : Type 0 where
-  pub row : (p : ℕ) → p < n → slice_index_or table' (a + p) Here ≡ cond (has w p) (slice_index_or cells (b + p) Here) Here
-  pub before : (i : ℕ) → i < a → slice_index_or table' i Here ≡ slice_index_or table i Here
-  pub after : (i : ℕ) → a + n ≤ i → slice_index_or table' i Here ≡ slice_index_or table i Here
-
 -- the row of channel c is the definition's, and the other rows are as they were
 pub record RowOf (g : Graph) (up : ℕ → Bool) (table : List Entry) (c : ℕ) (table' : List Entry) : Type 0 where
   pub row : (p : ℕ) → p < g.n → slice_index_or table' (c * g.n + p) Here ≡ kept g up c p
   pub rest : (i p : ℕ) → (i ≢ c) → p < g.n → slice_index_or table' (i * g.n + p) Here ≡ slice_index_or table (i * g.n + p) Here
 
--- every place is near enough from every door
-abbrev pub Near : ℕ → List ℕ → List ℕ → List Bool → Type 0
-Near n fs ts us = (s p : ℕ) → s < n → p < n →
-    shortest (legal (graph_by n fs ts) (up_by us)) (stands p) (most (graph_by n fs ts)) (start (graph_by n fs ts) (up_by us) (length fs + s)) < most (graph_by n fs ts)
+-- for each link the places for which blocks from some door come to it
+pub record AllMet (g : Graph) (up : ℕ → Bool) (ms : List ℕ) : Type 0 where
+  pub size : length ms ≡ g.links
+  pub marks : (k p : ℕ) → k < g.links → p < g.n → marked ms k p ≡ met g up k p
 
--- links between n switches, with which of them go up
-pub record Linked (n : ℕ) (fs ts : List ℕ) (us : List Bool) : Type 0 where
-  pub few : n ≤ 64
-  pub ends : Ends n fs ts
-  pub short : length fs ≤ 256
-  pub ups : length us ≡ length fs
-
--- the whole table
-pub record Tabled (n : ℕ) (fs ts : List ℕ) (us : List Bool) (es : List Entry) : Type 0 where
-  pub size : length es ≡ (length fs + n) * n
-  pub entries : (c p : ℕ) → c < length fs + n → p < n → slice_index_or es (c * n + p) Here ≡ kept (graph_by n fs ts) (up_by us) c p
+-- the whole table of a tree
+pub record Tabled (t : Tree) (es : List Entry) : Type 0 where
+  pub size : length es ≡ ((graph_in t).links + (graph_in t).n) * (graph_in t).n
+  pub entries : (c p : ℕ) → c < (graph_in t).links + (graph_in t).n → p < (graph_in t).n → slice_index_or es (c * (graph_in t).n + p) Here ≡ kept (graph_in t) (up_in t) c p

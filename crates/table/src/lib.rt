@@ -3,14 +3,16 @@
 // of cables can be served, its net is good, and it leads every door's blocks to every place.
 #![tactic(auto)]
 
-mod cells;
 mod error;
 mod laws;
 mod laying;
 mod marks;
+mod onward;
 mod rows;
+mod states;
+mod steps;
 mod sweep;
-mod tables;
+mod ways;
 
 pub use error::LayoutError;
 pub use laws::{each_at_its_place, here_where_it_should, laid_is_good, roads_are_right};

@@ -29,7 +29,7 @@ wait_is h d p m es r ld lp w q u =
     let z = net_of l in
     let c = l.links + d in
     let a = and_from (ltb d l.doors) (ltb p l.places) (lt-ltb d l.doors ld) (lt-ltb p l.places lp) in
-    let i = h.bounds.right c (omega arith) in
+    let i = h.bounds.complete.right c (omega arith) in
     let s : (0 + 1) * patience z c + stores z es ≡ wait_along h d es = ap (λ (x : ℕ). x + stores z es) (let o : (0 + 1) * patience z c ≡ patience z c = omega arith in o ∙ sym i) in
     u ∙ ap (λ (x : Option ℕ). unwrap_or x 0) (q ∙ ap (λ (b : Bool). cond b (Some (wait z 0 c p)) None) a)
     ∙ (wait_law z (plan_good h.bounds.plan) c p).1 0 es w ∙ s

@@ -1,4 +1,5 @@
 pub mod Legal
+pub mod Listed
 pub mod Planted
 pub mod Laws
 pub mod Made

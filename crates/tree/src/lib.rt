@@ -3,10 +3,12 @@
 // along them.
 #![tactic(auto)]
 
+mod heights;
 mod laws;
 mod planted;
 mod planting;
-mod ranks;
+mod way;
 
 pub use laws::{legal_roads, one_higher, ranks_rise};
 pub use planted::Tree;
+pub use way::Way;

@@ -1,20 +1,20 @@
-ghost use Rattle.std.specs.Prelude.{◌≡◌, ℕ, ◌<◌, slice_index};
-ghost use Rattle.graph.specs.Graph.{graph_by};
+ghost use Rattle.std.specs.Prelude.{◌≡◌, ◌<◌};
+ghost use Rattle.graph.specs.Layers.{Levelled};
+ghost use Rattle.graph.specs.Refusal.{graph_of_cabling};
 ghost use Rattle.graph.specs.Tree.{level};
-ghost use Rattle.tree.specs.Planted.{rank_list, up_list};
+ghost use Rattle.tree.specs.Listed.{way_list};
 
+use crate::Way;
 use graph::Cabling;
 
-// The tree with a root: each switch's level, whether each link goes up, and each link's rank.
+// The tree with a root: each switch's level, and each link's way.
 #[derive(Drop)]
 pub struct Tree {
     pub cabling: Cabling,
     pub root: usize,
     pub levels: Vec<u8>,
-    pub ups: Vec<bool>,
-    pub ranks: Vec<u32>,
+    pub ways: Vec<Way>,
     ghost inside: { root < cabling.switches },
-    ghost levelled: { (s : ℕ) → s < cabling.switches → slice_index levels.items s ≡ level (graph_by cabling.switches cabling.from.items cabling.to.items) root s },
-    ghost upped: { ups.items ≡ up_list (graph_by cabling.switches cabling.from.items cabling.to.items) (level (graph_by cabling.switches cabling.from.items cabling.to.items) root) },
-    ghost ranked: { ranks.items ≡ rank_list (graph_by cabling.switches cabling.from.items cabling.to.items) (level (graph_by cabling.switches cabling.from.items cabling.to.items) root) },
+    ghost levelled: { Levelled (graph_of_cabling cabling) root levels.items },
+    ghost listed: { ways.items ≡ way_list (graph_of_cabling cabling) (level (graph_of_cabling cabling) root) },
 }

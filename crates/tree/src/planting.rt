@@ -3,7 +3,7 @@ ghost use Rattle.tree.specs.Made.{Planted};
 ghost use Rattle.graph.specs.Refusal.{Rootless};
 
 use crate::Tree;
-use crate::ranks::{ranks_of, ups_of};
+use crate::heights::Heights;
 use graph::{Cabling, TreeError};
 use std::alloc::Global;
 
@@ -12,32 +12,14 @@ impl Tree {
     pub fn new(heap: Global, cabling: Cabling, root: usize) -> Result<Tree, TreeError>
         ensures { MatchResult result (λ t. Planted cabling root t) (λ e. Rootless cabling root e) }
     {
-        let levels = match cabling.levels(heap, root) {
-            Ok(levels) => levels,
-            Err(e) => return Err(e),
-        };
-        let Ok(ups) = ups_of(
-            heap,
-            levels.as_slice(),
-            cabling.from.as_slice(),
-            cabling.to.as_slice(),
-        ) else {
-            return Err(TreeError::Memory);
-        };
-        let Ok(ranks) = ranks_of(
-            heap,
-            levels.as_slice(),
-            ups.as_slice(),
-            cabling.to.as_slice(),
-        ) else {
-            return Err(TreeError::Memory);
-        };
+        let levels = cabling.levels(heap, root)?;
+        let heights = Heights { levels: &levels };
+        let ways = heights.ways(heap, &cabling.links)?;
         Ok(Tree {
             cabling,
             root,
             levels,
-            ups,
-            ranks,
+            ways,
         })
     }
 }

@@ -8,7 +8,7 @@ use Rattle.net.specs.Layout.{net_of}
 use Rattle.net.specs.Net.{Good}
 
 pub plan_good : (m : Plan) → Good (net_of m.layout)
-plan_good m = good m.layout m.some m.rising
+plan_good m = good m.layout m.sized.some m.rising
 
 pub plan_link : (m : Plan) (c p e : ℕ) → (net_of m.layout).next c p ≡ Link e → e < m.layout.links
 plan_link m c p e q = ((plan_good m).rises c p e q).0

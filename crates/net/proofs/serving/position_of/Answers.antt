@@ -1,14 +1,13 @@
-use Rattle.std.proofs.Common.{arith}
+use Rattle.std.proofs.Common.{ltb, rules, tests, arith}
+use Rattle.std.proofs.lemmas.Iterator.{YieldsList-from_slice}
+use Rattle.std.proofs.lemmas.Iterator.Search.{position_from_yields_List}
+use Rattle.std.proofs.lemmas.Grind.{common_steps}
 use Rattle.net.specs.Position.{rank_of}
-use Rattle.net.proofs.Positions.{position_is}
+use Rattle.net.proofs.Positions.{position_fits}
 use Rattle.net.proofs.serving.position_of.Goals as goal
-
-pub returns-then-ranks-other : goal.returns-then-ranks-other
-returns-then-ranks-other c =
-    position_is (rank_of c.args.ranks.now) c.args.link c.args.served.now _ (omega arith) c.loop-i.invariant
-    (λ h. c.if-ranks-other.true)
 
 pub returns : goal.returns
 returns c =
-    position_is (rank_of c.args.ranks.now) c.args.link c.args.served.now _ (omega arith)
-    (λ k h. c.loop-i.invariant k (omega arith)) (λ h. absurd (omega arith))
+    let p = position_from_yields_List (λ k. ltb (rank_of c.args.ranks.now k) (rank_of c.args.ranks.now c.args.link)) _ _ c.position.result c.position.ensures.ran (YieldsList-from_slice c.args.served.now cc) (λ x b q k. search (rules, tests)) in
+    let f = position_fits (rank_of c.args.ranks.now) c.args.link c.args.served.now in
+    grind (arith, common_steps)

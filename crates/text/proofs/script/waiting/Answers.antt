@@ -1,25 +1,19 @@
-use Rattle.text.proofs.script.waiting.Goals as goal
-use Rattle.std.proofs.Common.{◌≡◌, ℕ, ◌+◌, ◌++◌, length, string_bytes, codes, refl, ap, ◌∙◌, arith}
-use Rattle.text.specs.Plays.{waiting_one}
-use Rattle.text.proofs.Eachs.{below_ends, below_starts, below_grows, value_is}
-use Rattle.net.specs.declared.plan.Plan.{Plan}
+use Rattle.std.proofs.Common.{ℕ, ◌+◌, ◌++◌, cond, ltb, length, string_bytes, Some, None, codes, unwrap_or, ap, ◌∙◌, refl, rules}
+use Rattle.std.proofs.lemmas.Result.{IfOk-weaker}
 use Rattle.report.specs.Lines.{waiting_line}
 use Rattle.round.specs.Running.{net_in, state_in}
-
-pub loop-door-init : goal.loop-door-init
-loop-door-init c = below_starts (waiting_one c.args.running.now) (string_bytes c.args.text.now) (string_bytes c.args.text.now) refl
-
-pub loop-door-preserved : goal.loop-door-preserved
-loop-door-preserved c =
-    let g = c.args.running.now in
-    let l : c.plan.result.now.layout.doors ≡ (net_in g).doors = ap (λ (p : Plan). p.layout.doors) c.plan.ensures in
-    below_grows (waiting_one c.args.running.now) (string_bytes c.args.text.now) (string_bytes c.loop-door.text) (string_bytes c.writeln.new.self) c.loop-door.door c.loop-door.invariant
-    (c.in_ok-writeln.ensures.bytes
-    ∙ ap (λ (n : ℕ). string_bytes c.loop-door.text ++ (waiting_line c.loop-door.door n ++ codes "\n"))
-    (value_is c.waiting_at.result c.loop-door.door (net_in g).doors (length ((state_in g).queue ((net_in g).links + c.loop-door.door))) c.unwrap_or-count.result (omega (arith, l))
-    c.waiting_at.ensures c.unwrap_or-count.ensures))
+use Rattle.text.specs.Plays.{waiting_one}
+use Rattle.text.proofs.Chains.{below_same, below_written}
+use Rattle.text.proofs.Eachs.{value_is}
+use Rattle.text.proofs.script.waiting.Goals as goal
 
 pub returns : goal.returns
 returns c =
-    let l : c.plan.result.now.layout.doors ≡ (net_in c.args.running.now).doors = ap (λ (p : Plan). p.layout.doors) c.plan.ensures in
-    below_ends (waiting_one c.args.running.now) (string_bytes c.args.text.now) (string_bytes c.loop-door.text) c.loop-door.door (net_in c.args.running.now).doors (omega arith) c.loop-door.invariant
+    let g = c.args.running.now in
+    let n = (net_in g).doors in
+    let count = λ (k : ℕ). length ((state_in g).queue ((net_in g).links + k)) in
+    let told = λ (k : ℕ). waiting_line k (unwrap_or (cond (ltb k n) (Some (count k)) None) 0) ++ codes "\n" in
+    IfOk-weaker c.write_each.result _ _
+    (λ _ w. below_written _ told n w (search rules) c.map.ensures.closure (λ x. refl) (λ k x q e. search rules)
+    ∙ ap (λ t. string_bytes c.args.text.now ++ t) (below_same told (waiting_one g) n (λ k l. ap (λ (m : ℕ). waiting_line k m ++ codes "\n") (value_is _ k n (count k) _ l refl refl))))
+    c.write_each.ensures

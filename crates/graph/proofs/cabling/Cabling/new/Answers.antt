@@ -1,35 +1,35 @@
-use Rattle.std.proofs.Common.{◌≡◌, ℕ, ◌≤◌, List, length, Ok, vec_items, ◌∙◌, subst, arith}
-use Rattle.graph.specs.Layers.{Joins}
-use Rattle.graph.proofs.Links.{linked_of}
+use Rattle.std.proofs.Common.{◌≡◌, ◌<◌, ap, ◌∙◌, subst, refl}
+use Rattle.std.proofs.lemmas.Result.{err_from_is_err_and}
+use Rattle.graph.specs.Graph.{Graph, graph_with}
+use Rattle.graph.specs.Tree.{Joined, Lost, root}
+use Rattle.graph.proofs.Links.{linked_of, graph_links}
 use Rattle.graph.proofs.cabling.Cabling.new.Goals as goal
 
-pub join-requires : goal.join-requires
-join-requires c =
-    linked_of c.args.switches c.args.cables.now _ _ c.in_default.ensures
-    (c.as_slice.ensures.value ∙ c.in-Ok.ensures) (c.as_slice-2.ensures.value ∙ c.in-Ok-ends.ensures)
+pub start-requires : goal.start-requires
+start-requires c = linked_of c.args.switches c.args.cables.now c.deref.result.now c.in_ok-check.ensures (c.deref.ensures.value ∙ c.in_ok-links.ensures)
+
+pub returns-in_err-root : goal.returns-in_err-root
+returns-in_err-root c =
+    let n = c.args.switches in
+    let e = c.in_ok-start.ensures.0 ∙ ap (graph_with n) (c.deref.ensures.value ∙ c.in_ok-links.ensures) ∙ graph_links n c.args.cables.now in
+    let p = err_from_is_err_and c.from_residual-in_err-root.result c.from_residual-in_err-root.ensures.1 in
+    rw (p.1, p.2) (c.in_ok-check.ensures, subst (λ (g : Graph). Lost g c.in_err-root.field-0.0.lost) e c.in_err-root.ensures)
 
 pub invariant_of-result : goal.invariant_of-result
 invariant_of-result c =
-    let k = linked_of c.args.switches c.args.cables.now (vec_items c.in-Ok.from) (vec_items c.in-Ok-ends.to) c.in_default.ensures c.in-Ok.ensures c.in-Ok-ends.ensures in
     let n = c.args.switches in
-    let j : Joins n (vec_items c.in-Ok.from) (vec_items c.in-Ok-ends.to) (Ok c.in-Ok-join.root) =
-    subst (λ (ts : List ℕ). Joins c.args.switches (vec_items c.in-Ok.from) ts (Ok c.in-Ok-join.root)) c.as_slice-2.ensures.value
-    (subst (λ (fs : List ℕ). Joins c.args.switches fs c.as_slice-2.result.now (Ok c.in-Ok-join.root)) c.as_slice.ensures.value c.in-Ok-join.ensures) in
-    let v : c.in-Ok.from.len ≡ length (vec_items c.in-Ok.from) = c.in-Ok.from.ok.0 in
-    let s = k.short in
-    let short : c.in-Ok.from.len ≤ 256 = omega arith in
+    let e = c.in_ok-start.ensures.0 ∙ ap (graph_with n) c.deref.ensures.value in
+    let h = subst (λ (g : Graph). (c.in_ok-root.root ≡ root g) × (c.in_ok-root.root < g.n) × Joined g) e c.in_ok-root.ensures in
     record {
-      some = k.some;
-      few = k.few;
-      short = short;
-      same = k.ends.same;
-      begins = k.ends.from;
-      ends = k.ends.to;
-      apart = k.apart;
-      back = λ i l. (k.two i l).0;
-      back_from = λ i l. (k.two i l).1;
-      back_to = λ i l. (k.two i l).2;
-      joined = j.2;
-      inside = j.1;
-      center = j.0;
+      linked = linked_of n c.args.cables.now _ c.in_ok-check.ensures c.in_ok-links.ensures;
+      joined = h.2;
+      inside = h.1;
+      center = h.0;
     }
+
+pub returns : goal.returns
+returns c =
+    let n = c.args.switches in
+    let e = c.in_ok-start.ensures.0 ∙ ap (graph_with n) (c.deref.ensures.value ∙ c.in_ok-links.ensures) ∙ graph_links n c.args.cables.now in
+    let h = subst (λ (g : Graph). (c.in_ok-root.root ≡ root g) × (c.in_ok-root.root < g.n) × Joined g) e c.in_ok-root.ensures in
+    record { fine = c.in_ok-check.ensures; switches = refl; links = c.in_ok-links.ensures; root = h.0; joined = h.2 }

@@ -1,0 +1,79 @@
+ghost use Rattle.std.specs.Prelude.{◌≡◌, ◌↔◌, ◌+◌, ◌<◌, All, IsTrue, IfOk};
+ghost use Rattle.table.specs.Cells.{Layer};
+ghost use Rattle.table.specs.Swept.{Layers, Looks, Steps, Underway};
+ghost use Rattle.tree.specs.Planted.{graph_in, up_in};
+
+use crate::states::State;
+use crate::sweep::Sweep;
+use crate::ways::{from, goes_up, links, to};
+use std::alloc::{AllocError, Global};
+use tree::Tree;
+
+impl<'a> Sweep<'a> {
+    // At first each state has reached its own switch.
+    pub(crate) fn new(heap: Global, tree: &'a Tree) -> Result<Sweep<'a>, AllocError>
+        ensures { IfOk result (λ w. (w.tree.now ≡ tree.now) × Layer (graph_in tree.now) (up_in tree.now) 0 0 w.states.items) }
+    {
+        let n = tree.cabling.switches;
+        let mut states = Vec::new(heap);
+        for i in 0..n + n {
+            states.push(State::new(heap, n, i % n)?)?;
+        }
+        Ok(Sweep { tree, states })
+    }
+
+    // Link k leads from state x to state y: what y had reached is added to what x has.
+    fn step(&mut self, x: usize, y: usize, k: usize)
+        requires x { x < self.old.tree.now.cabling.switches + self.old.tree.now.cabling.switches }
+        requires y { y < self.old.tree.now.cabling.switches + self.old.tree.now.cabling.switches }
+        requires k { k < 256 }
+        ensures { Steps self.old x y k self.new }
+    {
+        let more = self.states[y].before;
+        self.states[x].add(more, k as u16);
+    }
+
+    // Link k is looked at from each state from which it may be taken: links up only where none down was taken before.
+    fn look(&mut self, k: usize)
+        requires { k < (graph_in self.old.tree.now).links }
+        ensures { Looks self.old k self.new }
+    {
+        let n = self.tree.cabling.switches;
+        let begin = from(self.tree, k);
+        let end = to(self.tree, k);
+        if goes_up(self.tree, k) {
+            self.step(begin, end, k);
+        } else {
+            self.step(begin, n + end, k);
+            self.step(n + begin, n + end, k);
+        }
+    }
+
+    // A layer begins: what each state has reached is kept beside.
+    fn begin(&mut self)
+        ensures { Underway self.old 0 self.new }
+    {
+        for state in self.states.iter_mut() {
+            state.before = state.reached;
+        }
+    }
+
+    // One layer more: every link is looked at.
+    pub(crate) fn layer(&mut self)
+        ensures { Layers self.old self.new }
+    {
+        self.begin();
+        for k in 0..links(self.tree) {
+            self.look(k);
+        }
+    }
+
+    // Whether the last layer added nothing to any state.
+    pub(crate) fn is_still(&self) -> bool
+        ensures { IsTrue result ↔ All (λ s. s.before ≡ s.reached) self.now.states.items }
+    {
+        self.states
+            .iter()
+            .all(|state| state.before == state.reached)
+    }
+}
