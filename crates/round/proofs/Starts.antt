@@ -47,4 +47,4 @@ new_state z ls ds cs q f t d c =
     ap (λ (w : List ℕ). read (replicate z.links [] ++ replicate z.doors []) w (map turn_of ls) cs) f ∙
     ap (λ (w : List ℕ). read (replicate z.links [] ++ replicate z.doors []) (replicate z.links z.store) w cs) t ∙
     ap (read (replicate z.links [] ++ replicate z.doors []) (replicate z.links z.store) (replicate z.links 0)) c in
-    b ∙ same_made _ _ _ _ _ _ [] 0 (nothing_there z.links z.doors []) (up_to z.links z.store) (zeros z.links)
+    b ∙ same_made [] 0 (nothing_there z.links z.doors []) (up_to z.links z.store) (zeros z.links)
