@@ -1,12 +1,10 @@
 // What the programs share: how words and files are read, why a program fails, and how it ends.
 #![tactic(auto)]
 
-mod before;
 mod ends;
 mod failure;
 mod given;
 
-pub use before::{finish, load, refuse};
 pub use ends::{end, put};
 pub use failure::Failure;
 pub use given::{read, words};
