@@ -44,14 +44,6 @@ module _ (H : ℕ → ℕ → Type 0) (c : ℕ) where
   pub back_at : (x j k : ℕ) → j ≡ k → Back H c x j → Back H c x k
   back_at x j k q b = subst (λ (i : ℕ). Back H c x i) q b
 
-  pub none_near : (A : List ℕ) → ((x : ℕ) → get_or A x 0 ≡ 0) → Near H c 0 A
-  none_near A z =
-      record {
-        some = λ x h. let q = z x in absurd (omega arith);
-        most = λ x. let q = z x in omega arith;
-        least = λ x j b h. let s = b.size in absurd (omega arith);
-      }
-
   pub mark : (k : ℕ) (A : List ℕ) (y : ℕ) → y < length A → get_or A y 0 ≡ 0 → Back H c y (k + 1) → Near H c k A → Near H c k (set A y (k + 1))
   mark k A y h q b n =
       record {
@@ -77,9 +69,6 @@ module _ (H : ℕ → ℕ → Type 0) (c : ℕ) where
             (omega arith, omega arith))
             (at_set A y (k + 1) x h);
       }
-
-  pub spread_none : (k x : ℕ) (A : List ℕ) → Near H c k A → Spread H c k x c A A
-  spread_none k x A n = record { size = refl; near = n; only = λ z. inl refl; done = λ z l h w. absurd (omega arith) }
 
   -- y is looked at; b says whether it hands blocks to x
   pub spread_more : (k x y : ℕ) (old A : List ℕ) (b : Bool) (v : ℕ) → Source H c x (k + 1) → c ≤ y → y < length A → (b ≡ true → H y x) → (H y x → b ≡ true) → v ≡ cond (b && eqb (get_or A y 0) 0) (k + 1) (get_or A y 0) → Spread H c k x y old A → Spread H c k x (y + 1) old (set A y v)
@@ -134,9 +123,6 @@ module _ (H : ℕ → ℕ → Type 0) (c : ℕ) where
           } in
           let same : set A y v ≡ A = ap (λ (i : ℕ). set A y i) w ∙ set-get_or A y 0 in
           subst (λ (B : List ℕ). Spread H c k x (y + 1) old B) (sym same) r
-
-  pub layer_none : (k : ℕ) (A : List ℕ) → Near H c k A → Layer H c k c A
-  layer_none k A n = record { near = n; done = λ x z h l. absurd (omega arith) }
 
   -- a channel of another number is passed over
   pub layer_pass : (k y : ℕ) (A : List ℕ) → (get_or A y 0 ≡ k → ⊥) → Layer H c k y A → Layer H c k (y + 1) A
@@ -195,23 +181,6 @@ module _ (H : ℕ → ℕ → Type 0) (c : ℕ) where
           let f = back_first x k (back_at x j (k + 1) q w) p in
           let r = near_by x f.0 w.from f.1 f.2 in
           (r.0, (let m = r.1 in omega arith))
-
-  -- the first layer
-  pub first_all : (n : ℕ) (old A : List ℕ) → ((z x : ℕ) → H z x → z < n) → Spread H c 0 c n old A → Near H c 1 A
-  first_all n old A b s =
-      record {
-        some = s.near.some;
-        most = λ x. let m = s.near.most x in omega arith;
-        least = λ x j w h.
-            let p = back_some x j w in
-            let q : j ≡ 1 = omega arith in
-            let g = back_last x (back_at x j 1 q w) in
-            let m = s.near.most x in
-            (s.done x w.from (b x c g) g, omega arith);
-      }
-
-  pub first_source : Source H c c 1
-  first_source = λ z l h. one_back z l h
 
   -- where no channel has number k, none has a higher one, and what is known up to k + 1 is known of every layer
   module _ (k : ℕ) (A : List ℕ) (p : 0 < k) (n : Near H c (k + 1) A) (none : (x : ℕ) → get_or A x 0 ≡ k → ⊥) where

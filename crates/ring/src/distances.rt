@@ -9,8 +9,9 @@ use std::alloc::{AllocError, Global};
 pub(crate) struct Distances<'a> {
     pub(crate) graph: &'a Dependencies,
     pub(crate) to: usize,
-    // 0 where no way is known: an Option would take twice the room, and these numbers are read most of the time.
+    // 0 where no way is known, as `of` tells: an Option takes twice the room, and the time goes into reading these.
     pub(crate) numbers: Vec<u16>,
+    // That they are right is said by `Near` in the clauses: up to which number changes from call to call.
     ghost inside: { to < graph.now.channels },
     ghost sized: { vec_len numbers ≡ graph.now.channels },
 }
@@ -83,6 +84,7 @@ impl<'a> Distances<'a> {
         ensures spread { Spread (FeedsIn self.old.graph.now) self.old.to k x self.old.graph.now.channels self.old.numbers.items self.new.numbers.items }
     {
         let feeders = self.graph.feeders(x);
+        // By index: of what `iter_mut().zip(feeders)` lends out a proof knows nothing afterwards.
         for y in self.to..self.graph.channels {
             self.numbers[y] = marked(feeders[y], self.numbers[y], k + 1);
         }
