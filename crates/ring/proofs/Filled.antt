@@ -1,5 +1,5 @@
 -- The square of who hands blocks to whom, mark by mark. Assumes nothing.
-use Rattle.std.proofs.Common.{◌≡◌, ℕ, zero, suc, ◌+◌, ◌*◌, ◌<◌, ◌≤◌, Bool, true, false, ◌⊎◌, List, length, get_or, set, replicate, vec_items, sym, refl, ap, ◌∙◌, subst, inl, inr, ⊎_elim, mul-le-mul_right, arith}
+use Rattle.std.proofs.Common.{◌≡◌, ℕ, ◌+◌, ◌*◌, ◌<◌, ◌≤◌, Bool, true, false, ◌⊎◌, List, length, get_or, set, vec_items, sym, ap, ◌∙◌, subst, inl, inr, ⊎_elim, mul-le-mul_right, arith}
 use Rattle.std.proofs.lemmas.Nat.{mul-add-lt}
 use Rattle.std.proofs.lemmas.List.{get_or-set_same, get_or-set_other}
 use Rattle.std.proofs.lemmas.Bool.{cases_eq, cases_lt, cases_order, ltb-true}
@@ -111,8 +111,3 @@ pub all_marked : (es : List Entry) (n m : ℕ) (g : Dependencies) → length es 
 all_marked es n m g z q s =
     let t : Marked es g.channels m n 0 (vec_items g.marks) = subst (λ (i : ℕ). Marked es i m n 0 (vec_items g.marks)) (sym q) s in
     record { channels = q; only = t.only; each = λ y x h. t.each y h.0 x (inl (hands_from es n m y x z h)) h.1 h.2 }
-
-pub all_same : {X : Type 0} (k i : ℕ) (d : X) → get_or (replicate k d) i d ≡ d
-all_same zero i d = refl
-all_same (suc k) zero d = refl
-all_same (suc k) (suc i) d = all_same k i d

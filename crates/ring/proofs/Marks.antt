@@ -1,5 +1,5 @@
 -- Layer by layer the numbers are the distances back: one mark, the marks at one channel, a whole layer. Assumes nothing.
-use Rattle.std.proofs.Common.{◌≡◌, ℕ, zero, suc, ◌+◌, ◌<◌, ◌≤◌, Bool, true, false, cond, ◌&&◌, eqb, ◌⊎◌, List, [], ◌∷◌, length, get_or, set, sym, refl, ap, ◌∙◌, subst, inl, inr, ⊎_elim, arith, length-set}
+use Rattle.std.proofs.Common.{◌≡◌, ℕ, zero, suc, ◌+◌, ◌<◌, ◌≤◌, Bool, true, false, cond, ◌&&◌, eqb, ◌⊎◌, List, [], ◌∷◌, length, get_or, set, sym, ap, ◌∙◌, subst, inl, inr, ⊎_elim, arith, length-set}
 use Rattle.std.specs.List.{AllByRecursion}
 use Rattle.std.proofs.lemmas.List.{get_or-set_same, get_or-set_other, set-get_or}
 use Rattle.std.proofs.lemmas.Bool.{cases_eq, cases_lt, cases_Bool, and_parts, and_cases, eqb-true, eqb-false, cond-true, cond-false, both_ways}
@@ -14,17 +14,11 @@ at_set A y v x h = ⊎_elim
     (cases_eq x y)
 
 module _ (H : ℕ → ℕ → Type 0) (c : ℕ) where
-  pub one_back : (x : ℕ) → c ≤ x → H x c → Back H c x 1
-  one_back x l h = record { over = []; along = h; size = refl; from = l; high = tt }
-
   -- one channel more in front
   pub more_back : (x e k : ℕ) → c ≤ x → H x e → Back H c e k → Back H c x (k + 1)
   more_back x e k l h b =
       let s = b.size in
       record { over = e ∷ b.over; along = (h, b.along); size = omega arith; from = l; high = (b.from, b.high) }
-
-  pub back_some : (x k : ℕ) → Back H c x k → 0 < k
-  back_some x k b = let s = b.size in omega arith
 
   -- the first step of a way back
   pub back_first : (x k : ℕ) → Back H c x (k + 1) → 0 < k → (e : ℕ) × H x e × Back H c e k
