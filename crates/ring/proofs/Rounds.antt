@@ -60,10 +60,6 @@ has_room es n m c p e row old mid S a r w l q k =
     let at : Link e ≡ entry_at es m c p = sym q ∙ w.entry p (omega arith) in
     bounded (Hands es m) n mid (λ x y g. hands_from es n m x y r.sized.table g) r.free k.backed c e (hands_at es m c p e (omega arith) at)
 
-pub raise_more : (es : List Entry) (m c : ℕ) (old mid new : List ℕ) (a b t : Bool) → Lifted (Hands es m) (Below es m c) old mid a → Lifted (Hands es m) (InRow es m c m) mid new b → t ≡ (a || b) → Lifted (Hands es m) (Below es m (c + 1)) old new t
-raise_more es m c old mid new a b t l k is =
-    lifted_then (Hands es m) (Below es m c) (InRow es m c m) (Below es m (c + 1)) old mid new a b t l k (below_more es m c) is
-
 pub ready_more : (es : List Entry) (n m : ℕ) (S : ℕ → ℕ → Type 0) (first old new : List ℕ) (t : Bool) → Ready es n m first → length new ≡ n → Lifted (Hands es m) S old new t → Ready es n m new
 ready_more es n m S first old new t r z l = record { sized = r.sized; range = r.range; free = r.free; size = z; backed = l.backed }
 
