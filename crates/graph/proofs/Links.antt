@@ -36,11 +36,6 @@ tos_links (c ∷ cs) = ap (λ (xs : List ℕ). c.b ∷ c.a ∷ xs) (tos_links cs
 pub graph_links : (n : ℕ) (cs : List Cable) → graph_with n (links_of cs) ≡ graph_of n cs
 graph_links n cs = ap (λ (fs : List ℕ). graph_by n fs (map (λ l. l.to) (links_of cs))) (froms_links cs) ∙ ap (λ (ts : List ℕ). graph_by n (froms cs) ts) (tos_links cs)
 
-pub links_more : (cs : List Cable) (i : ℕ) (ls : List Link) → i < length cs → ls ≡ links_of (take i cs) →
-    ls ++ there_and_back (get_or cs i no_cable) ≡ links_of (take (i + 1) cs)
-links_more cs i ls l e =
-    ap (λ (xs : List Link). xs ++ there_and_back (get_or cs i no_cable)) e ∙ flat_map_more there_and_back [] (take i cs) (get_or cs i no_cable) ∙ ap links_of (sym (take_more cs i no_cable l))
-
 pub length_froms : (cs : List Cable) → length (froms cs) ≡ 2 * length cs
 unfolding froms
 length_froms [] = refl

@@ -2,7 +2,7 @@
 use Rattle.std.proofs.Common.{◌≡◌, ℕ, ◌+◌, ◌<◌, ◌≤◌, ◌⊎◌, Option, Some, None, List, [], ◌∷◌, length, get_or, sym, refl, ap, ◌∙◌, subst, inl, inr, ⊎_elim, arith}
 use Rattle.std.specs.List.{AllByRecursion}
 use Rattle.std.proofs.lemmas.Bool.{cases_eq, cases_lt, cases_order}
-use Rattle.ring.specs.declared.best.Best.{Best}
+use Rattle.ring.specs.declared.shortest.Best.{Best}
 use Rattle.ring.specs.Ring.{Along, Ring, NoRing, FromLowest, NotAfter, Smallest}
 use Rattle.ring.specs.Layers.{Back, Near}
 use Rattle.ring.specs.Down.{Lowest, LowestRing}

@@ -1,6 +1,6 @@
 -- The lowest member and the number of members of a ring of fewest, as the search over channels finds them. Assumes nothing.
 use Rattle.std.specs.Prelude.{ℕ, ◌+◌, ◌<◌, ◌≤◌, Option, Some, None}
-use Rattle.ring.specs.declared.best.Best.{Best}
+use Rattle.ring.specs.declared.shortest.Best.{Best}
 use Rattle.ring.specs.Layers.{Back}
 
 -- there is a ring with these, and none as short has a lower lowest member

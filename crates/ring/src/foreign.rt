@@ -5,11 +5,7 @@ ghost use Rattle.ring.specs.Table.{FirstStray, InRange, IsRow, Sized, names};
 
 use crate::RingError;
 use net::Entry;
-
-// What a table from elsewhere may have; the square of channels stays small with it.
-const MOST_CHANNELS: usize = 320;
-
-const MOST_PLACES: usize = 64;
+use net::limits::{FOREIGN_CHANNELS, FOREIGN_PLACES};
 
 // A forwarding table from elsewhere whose sizes are right: each channel has an entry for each place, which says here or
 // names a channel.
@@ -33,7 +29,11 @@ impl<'a> ForeignTable<'a> {
             (λ t. (t.entries.now ≡ entries.now) × (t.channels ≡ channels) × (t.places ≡ places))
             (λ e. Refuses entries.now channels places e) }
     {
-        if channels > MOST_CHANNELS || places > MOST_PLACES || entries.len() != channels * places {
+        // The graph's square of channels stays small with these sizes.
+        if channels > FOREIGN_CHANNELS as usize
+            || places > FOREIGN_PLACES as usize
+            || entries.len() != channels * places
+        {
             return Err(RingError::Sizes);
         }
         if let Some((channel, place)) = first_stray(entries, channels, places) {

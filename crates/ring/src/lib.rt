@@ -6,7 +6,6 @@
 // give the shortest ways back to it over channels not below c, and `walk` goes down them.
 #![tactic(auto)]
 
-mod best;
 mod dependencies;
 mod distances;
 mod error;

@@ -3,10 +3,16 @@ ghost use Rattle.ring.specs.Fewest.{FewestOf};
 ghost use Rattle.ring.specs.Graph.{FeedsIn};
 ghost use Rattle.ring.specs.Ring.{NoRing, Smallest};
 
-use crate::best::Best;
 use crate::dependencies::Dependencies;
 use crate::distances::Distances;
 use std::alloc::{AllocError, Global};
+
+// The lowest member of a ring, and how many members it has.
+#[derive(Clone, Copy)]
+struct Best {
+    low: usize,
+    members: u16,
+}
 
 // The smallest ring, if there is one.
 pub(crate) fn smallest(heap: Global, graph: &Dependencies) -> Result<Option<Vec<u16>>, AllocError>
@@ -25,10 +31,7 @@ fn fewest(heap: Global, graph: &Dependencies) -> Result<Option<Best>, AllocError
 {
     let mut best: Option<Best> = None;
     for low in 0..graph.channels {
-        let most = match best {
-            Some(best) => best.members,
-            None => graph.channels as u16 + 1,
-        };
+        let most = best.map_or(graph.channels as u16 + 1, |best| best.members);
         let back = Distances::back_to(heap, graph, low, most)?;
         if let Some(members) = back.members_below(most) {
             best = Some(Best { low, members });

@@ -1,7 +1,8 @@
-pub mod Places
-pub mod States
 pub mod Halves
-pub mod Sending
-pub mod Stays
-pub mod Starts
 pub mod Kept
+pub mod Places
+pub mod Sending
+pub mod Sizes
+pub mod Starts
+pub mod States
+pub mod Stays

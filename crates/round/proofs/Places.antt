@@ -1,7 +1,7 @@
 -- Lists read as functions of the index: a write to a list is `at` of its function. Assumes nothing.
 use Rattle.std.proofs.Common.{◌≡◌, ℕ, ◌+◌, ◌-◌, ◌<◌, ◌⊎◌, List, ◌++◌, map, length, get_or, set, sym, ap, ◌∙◌, inl, inr, arith}
 use mathlib.Core.Path.{fun_ext}
-use Rattle.std.proofs.lemmas.List.{get_or-set_same, get_or-set_other, get_or_append_left, get_or-append_right, get_or-map, length-append, length-map, map-set, set-append_right}
+use Rattle.std.proofs.lemmas.List.{get_or-set_same, get_or-set_other, get_or-append_right, get_or-map, length-append, length-map, map-set, set-append_right}
 use Rattle.std.proofs.lemmas.Grind.{get_or-set_at}
 use Rattle.std.proofs.lemmas.Bool.{cases_eq}
 use Rattle.machine.proofs.Steps.{at_same, at_other}
@@ -26,9 +26,6 @@ pub mapped_read : {Y A : Type 0} (g : Y → A) (ys : List Y) (i : ℕ) (y : Y) (
 mapped_read g ys i y d h e = get_or-map g ys i y d h ∙ ap g (sym e)
 
 -- A row of values in two parts: those of the links, then those of the doors.
-pub front_read : {A : Type 0} (xs ys : List A) (i : ℕ) (d : A) → i < length xs → get_or (xs ++ ys) i d ≡ get_or xs i d
-front_read xs ys i d h = get_or_append_left xs ys d i h
-
 pub behind_read : {A : Type 0} (xs ys : List A) (i n j : ℕ) (d : A) → n ≡ length xs → i ≡ n + j → get_or (xs ++ ys) i d ≡ get_or ys j d
 behind_read xs ys i n j d q h = get_or-append_right xs ys n i d (sym q) (omega arith) ∙ ap (λ (k : ℕ). get_or ys k d) (omega arith)
 

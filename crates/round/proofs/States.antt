@@ -1,6 +1,6 @@
 -- A state whose parts stand in lists: what writes to the lists do to it. Assumes nothing.
 use Rattle.std.proofs.Common.{◌≡◌, ℕ, pred, ◌+◌, ◌<◌, ltb, List, [], ◌∷◌, ◌++◌, map, length, get_or, set, drop, Some, None, Option, MatchOption, option_to_list, sym, refl, ap, ◌∙◌, arith}
-use Rattle.std.proofs.lemmas.List.{length-append, length-map, map-set, set-append_left}
+use Rattle.std.proofs.lemmas.List.{get_or_append_left, length-append, length-map, map-set, set-append_left}
 use Rattle.std.proofs.lemmas.Bool.{cond-true, cond-false, lt-ltb, le-ltb}
 use Rattle.net.specs.declared.Block.{Block}
 use Rattle.net.specs.declared.Came.{Came}
@@ -10,7 +10,7 @@ use Rattle.machine.specs.Round.{State, at, enter, following}
 use Rattle.round.specs.Fabric.{listed, leaves, arrives}
 use Rattle.round.specs.Link.{queue_of, free_of, turn_of}
 use Rattle.round.specs.declared.link.Link.{Link}
-use Rattle.round.proofs.Places.{at_set, at_here, behind_set, front_read, behind_read, mapped_read}
+use Rattle.round.proofs.Places.{at_set, at_here, behind_set, behind_read, mapped_read}
 
 abbrev pub made : (ℕ → List Block) → (ℕ → ℕ) → (ℕ → ℕ) → List Came → ℕ → State
 made q f t c r = record { queue = q; free = f; turn = t; came = c; round = r }
@@ -28,7 +28,7 @@ module _ (ls : List Link) (ds : List (List Block)) (cs : List Came) (n : ℕ) (e
   before = listed ls ds cs n
 
   pub queue_read : before.queue e ≡ queue_of x
-  queue_read = front_read (map queue_of ls) ds e [] (simp length-map h) ∙ mapped_read queue_of ls e x [] h is
+  queue_read = get_or_append_left (map queue_of ls) ds [] e (simp length-map h) ∙ mapped_read queue_of ls e x [] h is
 
   pub free_read : before.free e ≡ free_of x
   free_read = mapped_read free_of ls e x 0 h is

@@ -14,7 +14,7 @@ use Rattle.table.specs.Kept.{whole, met, kept}
 use Rattle.table.specs.Marked.{AllMet, RowOf}
 use Rattle.table.proofs.Parts.{put_in, put_other}
 use Rattle.table.proofs.Follow.{comes_met, same}
-use Rattle.table.proofs.Trees.{near}
+use Rattle.table.proofs.Trees.{near, few}
 
 -- the set of a channel has the places for which it is met
 pub met_is : (t : Tree) (ms : List ℕ) (c w : ℕ) → AllMet (graph_in t) (up_in t) ms → c < (graph_in t).links + (graph_in t).n → w ≡ get_or ms c 18446744073709551615 →
@@ -26,7 +26,7 @@ met_is t ms c w h l q p o = ⊎_elim link door (cases_lt c (length ms))
 
     door : length ms ≤ c → has w p ≡ met (graph_in t) (up_in t) c p
     door b =
-        let f = t.cabling.few in
+        let f = few t in
         let z = h.size in
         let e : c ≡ (graph_in t).links + (c - (graph_in t).links) = omega arith in
         ap (λ (v : ℕ). has v p) (q ∙ get_or_past ms c 18446744073709551615 b) ∙ each_in 64 18446744073709551615 refl p (omega arith)

@@ -8,6 +8,7 @@ use Rattle.table.specs.declared.states.State.{State}
 use Rattle.table.specs.declared.sweep.Sweep.{Sweep}
 use Rattle.table.specs.Cells.{reached_at, before_at, Layer, Held, Found}
 use Rattle.table.specs.Swept.{Layers}
+use Rattle.table.proofs.Trees.{to_small}
 use Rattle.table.proofs.Sweeping.{all_found, still_found}
 
 -- nothing was added to any state
@@ -52,6 +53,6 @@ module _ (t : Tree) where
 
   pub still_done : (j : ℕ) (w w' : Sweep) → j < t.cabling.switches + t.cabling.switches → At j w → Layers w w' → All (λ s. s.before ≡ s.reached) (vec_items w'.states) → Done w'
   still_done j w w' l a s q = done w' (s.tree ∙ a.tree)
-      (still_found (graph_in t) (up_in t) t.cabling.ends j (vec_items w'.states) (still (vec_items w'.states) q) l
+      (still_found (graph_in t) (up_in t) (to_small t) j (vec_items w'.states) (still (vec_items w'.states) q) l
       (subst (λ (u : Tree). Held (graph_in u) (up_in u) j (vec_items w'.states)) a.tree (s.held j (subst (λ (u : Tree). Layer (graph_in u) (up_in u) j 0 (vec_items w.states)) (sym a.tree) a.layer)))
       (let e : j + 1 ≡ suc j = omega arith in subst (λ (m : ℕ). Layer (graph_in t) (up_in t) m 0 (vec_items w'.states)) e (next_at j w w' l a s).layer))

@@ -17,6 +17,7 @@ use Rattle.table.specs.declared.sweep.Onward.{Onward}
 use Rattle.table.specs.Kept.{most, start, onward, whole, met}
 use Rattle.table.specs.Cells.{state_of}
 use Rattle.table.specs.Marked.{marked, OnlyMet, Closed, Opened, More, Walks}
+use Rattle.table.proofs.Trees.{to_small}
 use Rattle.table.proofs.Layering.{high_state, low_state}
 use Rattle.table.proofs.Stepping.{part_at}
 use Rattle.table.proofs.Follow.{Comes, same, by, comes_on, not_both, start_link, start_door, link_is, met_comes, comes_met}
@@ -28,13 +29,13 @@ linked e d k p q = cc
 module _ (t : Tree) where
   pub state_up : (c : ℕ) → c < (graph_in t).links → up_in t c ≡ true → (state_of (graph_in t).n ((graph_in t).to c) ≡ start (graph_in t) (up_in t) c) × ((graph_in t).to c < (graph_in t).n + (graph_in t).n)
   state_up c l e =
-      let o = t.cabling.ends c l in
+      let o = to_small t c l in
       (high_state (graph_in t).n ((graph_in t).to c) o ∙ ap (λ (b : Bool). (b, (graph_in t).to c)) (sym e) ∙ sym (start_link (graph_in t) (up_in t) c l), omega arith)
 
   pub state_down : (c : ℕ) → c < (graph_in t).links → up_in t c ≡ false →
       (state_of (graph_in t).n ((graph_in t).n + (graph_in t).to c) ≡ start (graph_in t) (up_in t) c) × ((graph_in t).n + (graph_in t).to c < (graph_in t).n + (graph_in t).n)
   state_down c l e =
-      let o = t.cabling.ends c l in
+      let o = to_small t c l in
       (low_state (graph_in t).n ((graph_in t).to c) ∙ ap (λ (b : Bool). (b, (graph_in t).to c)) (sym e) ∙ sym (start_link (graph_in t) (up_in t) c l), omega arith)
 
   pub state_door : (c : ℕ) → (graph_in t).links ≤ c → c < (graph_in t).links + (graph_in t).n →

@@ -13,6 +13,7 @@ use Rattle.table.specs.declared.states.State.{State}
 use Rattle.table.specs.declared.sweep.Sweep.{Sweep}
 use Rattle.table.specs.Cells.{reached_at, before_at, Relaxed}
 use Rattle.table.specs.Swept.{Steps, Looks}
+use Rattle.table.proofs.Trees.{from_small, to_small}
 use Rattle.table.proofs.Looking.{held_on, look_up, look_down}
 
 -- the part of a state that was read
@@ -62,7 +63,7 @@ module _ (w : Sweep) (k x y : ℕ) (lk : k < (graph_in w.tree.now).links) (p : x
   looks_up w' u s = record {
     tree = s.tree;
     held = λ j h. held_on g up j x y k ss (vec_items w'.states) s.relaxed h;
-    layer = λ j small held h. look_up g up j k small lk (w.tree.now.cabling.begins k lk) (w.tree.now.cabling.ends k lk) ss held (vec_items w'.states) u
+    layer = λ j small held h. look_up g up j k small lk (from_small w.tree.now k lk) (to_small w.tree.now k lk) ss held (vec_items w'.states) u
         (subst (λ (b : ℕ). Relaxed g.n ss (g.from k) b k (vec_items w'.states)) q (subst (λ (a : ℕ). Relaxed g.n ss a y k (vec_items w'.states)) p s.relaxed)) h;
   }
 
@@ -70,7 +71,7 @@ module _ (w : Sweep) (k x y : ℕ) (lk : k < (graph_in w.tree.now).links) (p : x
   looks_down w' w'' u s t = record {
     tree = t.tree ∙ s.tree;
     held = λ j h. held_on g up j (g.n + x) (g.n + y) k (vec_items w'.states) (vec_items w''.states) next (held_on g up j x (g.n + y) k ss (vec_items w'.states) s.relaxed h);
-    layer = λ j small held h. look_down g up j k small lk (w.tree.now.cabling.begins k lk) (w.tree.now.cabling.ends k lk) ss held (vec_items w'.states) (vec_items w''.states) u
+    layer = λ j small held h. look_down g up j k small lk (from_small w.tree.now k lk) (to_small w.tree.now k lk) ss held (vec_items w'.states) (vec_items w''.states) u
         (subst (λ (b : ℕ). Relaxed g.n ss (g.from k) (g.n + b) k (vec_items w'.states)) q (subst (λ (a : ℕ). Relaxed g.n ss a (g.n + y) k (vec_items w'.states)) p s.relaxed))
         (subst (λ (b : ℕ). Relaxed g.n (vec_items w'.states) (g.n + g.from k) (g.n + b) k (vec_items w''.states)) q (subst (λ (a : ℕ). Relaxed g.n (vec_items w'.states) (g.n + a) (g.n + y) k (vec_items w''.states)) p next)) h;
   }

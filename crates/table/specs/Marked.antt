@@ -1,11 +1,9 @@
 -- Which links are marked as met, while roads from doors are walked; and what is made of a tree. Assumes nothing.
-use Rattle.std.specs.Prelude.{◌≡◌, ℕ, ◌+◌, ◌*◌, ◌<◌, ◌≤◌, Bool, true, List, length, ◌≢◌, slice_index, slice_index_or}
+use Rattle.std.specs.Prelude.{◌≡◌, ℕ, ◌+◌, ◌*◌, ◌<◌, Bool, true, List, length, ◌≢◌, slice_index, slice_index_or}
 use Rattle.net.specs.declared.Entry.{Entry}
 use Rattle.net.specs.declared.Entry.TheVariants.{Here, Link}
 use Rattle.graph.specs.Graph.{Graph}
-use Rattle.graph.specs.Tree.{level}
 use Rattle.graph.specs.Sets.{has}
-use Rattle.tree.specs.Legal.{goes_up, rank_of}
 use Rattle.tree.specs.Planted.{graph_in, up_in}
 use Rattle.tree.specs.declared.planted.Tree.{Tree}
 use Rattle.table.specs.Kept.{whole, met, kept}
@@ -50,14 +48,3 @@ pub record AllMet (g : Graph) (up : ℕ → Bool) (ms : List ℕ) : Type 0 where
 pub record Tabled (t : Tree) (es : List Entry) : Type 0 where
   pub size : length es ≡ ((graph_in t).links + (graph_in t).n) * (graph_in t).n
   pub entries : (c p : ℕ) → c < (graph_in t).links + (graph_in t).n → p < (graph_in t).n → slice_index_or es (c * (graph_in t).n + p) Here ≡ kept (graph_in t) (up_in t) c p
-
--- the ranks of its links, and 0 for each door
-pub record Ranked (t : Tree) (rs : List ℕ) : Type 0 where
-  pub size : length rs ≡ (graph_in t).links + (graph_in t).n
-  pub links : (k : ℕ) → k < (graph_in t).links → slice_index rs k ≡ rank_of (graph_in t) (level (graph_in t) t.root) (goes_up (graph_in t) (level (graph_in t) t.root)) k
-  pub doors : (c : ℕ) → (graph_in t).links ≤ c → slice_index rs c ≡ 0
-
--- where its links end
-pub record Ended (t : Tree) (es : List ℕ) : Type 0 where
-  pub size : length es ≡ (graph_in t).links
-  pub ends : (k : ℕ) → k < (graph_in t).links → slice_index es k ≡ (graph_in t).to k

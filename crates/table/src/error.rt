@@ -5,7 +5,7 @@ use graph::CableError;
 use std::alloc::AllocError;
 
 // Why there is no layout: a store for no block or for more than 32; cables that are refused; or no memory.
-#[derive(Clone, Copy)]
+#[derive(Clone, Copy, Debug, PartialEq, Eq)]
 pub enum LayoutError {
     Room,
     Cables(CableError),

@@ -1,5 +1,5 @@
-ghost use Rattle.std.specs.Prelude.{◌≡◌, IfOk, MatchResult, map, slice_index};
-ghost use Rattle.table.specs.Marked.{Tabled, Ranked, Ended};
+ghost use Rattle.std.specs.Prelude.{◌≡◌, ◌++◌, IfOk, MatchResult, map, replicate};
+ghost use Rattle.table.specs.Marked.{Tabled};
 ghost use Rattle.table.specs.Promised.{LaidOut, Planned, Unlaid, Unplanned};
 
 use crate::LayoutError;
@@ -9,6 +9,7 @@ use graph::{Cable, Cabling};
 use net::limits::ROOM;
 use net::{Entry, Layout};
 use std::alloc::{AllocError, Global};
+use std::iter;
 use tree::Tree;
 
 // The kept table of a tree.
@@ -25,18 +26,21 @@ fn table_of(heap: Global, tree: &Tree) -> Result<Vec<Entry>, AllocError>
 
 // The rank of each link, and 0 for each door.
 fn ranks_of(heap: Global, tree: &Tree) -> Result<Vec<u32>, AllocError>
-    ensures { IfOk result (λ v. Ranked tree.now v.items) }
+    ensures { IfOk result (λ v. v.items ≡ map (λ w. w.rank) tree.now.ways.items ++ replicate tree.now.cabling.switches 0) }
 {
-    let mut ranks = Vec::from_slice(heap, tree.ranks.as_slice())?;
-    ranks.resize(links(tree) + tree.cabling.switches, 0)?;
-    Ok(ranks)
+    let doors = iter::repeat_n(0, tree.cabling.switches);
+    tree.ways
+        .iter()
+        .map(|way| way.rank)
+        .chain(doors)
+        .collect(heap)
 }
 
 // Where each link ends.
 fn ends_of(heap: Global, tree: &Tree) -> Result<Vec<u8>, AllocError>
-    ensures { IfOk result (λ v. Ended tree.now v.items) }
+    ensures { IfOk result (λ v. v.items ≡ map (λ l. l.to) tree.now.cabling.links.items) }
 {
-    Vec::from_slice(heap, tree.cabling.to.as_slice())
+    tree.cabling.links.iter().map(|link| link.to).collect(heap)
 }
 
 // The layout of a tree's net, whatever its root: the kept table, ranks, where links end, and stores for `room` blocks.

@@ -7,7 +7,7 @@ use tree::Tree;
 pub(crate) fn links(tree: &Tree) -> usize
     ensures { result ≡ (graph_in tree.now).links }
 {
-    tree.cabling.from.len()
+    tree.cabling.links.len()
 }
 
 // Where link k begins.
@@ -15,7 +15,7 @@ pub(crate) fn from(tree: &Tree, k: usize) -> usize
     requires { k < (graph_in tree.now).links }
     ensures { result ≡ (graph_in tree.now).from k }
 {
-    tree.cabling.from[k] as usize
+    usize::from(tree.cabling.links[k].from)
 }
 
 // Where link k ends.
@@ -23,7 +23,7 @@ pub(crate) fn to(tree: &Tree, k: usize) -> usize
     requires { k < (graph_in tree.now).links }
     ensures { result ≡ (graph_in tree.now).to k }
 {
-    tree.cabling.to[k] as usize
+    usize::from(tree.cabling.links[k].to)
 }
 
 // Whether link k goes up.
@@ -31,5 +31,5 @@ pub(crate) fn goes_up(tree: &Tree, k: usize) -> bool
     requires { k < (graph_in tree.now).links }
     ensures { result ≡ up_in tree.now k }
 {
-    tree.ups[k]
+    tree.ways[k].up
 }

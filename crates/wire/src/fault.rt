@@ -2,7 +2,7 @@ ghost use Rattle.std.specs.Prelude.{◌≡◌};
 ghost use Rattle.wire.specs.Faults.{fault_number, refusal};
 ghost use Rattle.wire.specs.declared.fault.WireError.TheVariants.{Memory, Refused as «refused»};
 
-use std::alloc::AllocFailed;
+use std::alloc::{AllocError, AllocFailed};
 
 // Why a thing is refused, with what the message names. Several causes share a number.
 #[derive(Clone, Copy, Debug, PartialEq, Eq)]
@@ -72,10 +72,8 @@ impl Fault {
             Fault::NoChannel(_) | Fault::TooManyChannels(_) | Fault::TooManyPlaces(_) => 10,
         }
     }
-}
 
-impl Fault {
-    // A thing that has this fault, and begins at this offset.
+    // A thing that has this fault and begins at this offset.
     pub fn at(self, offset: usize) -> Refusal
         ensures { result ≡ refusal self offset }
     {
@@ -91,6 +89,14 @@ impl From<Refusal> for WireError {
 
     fn from(refusal: Refusal) -> WireError {
         WireError::Refused(refusal)
+    }
+}
+
+impl From<AllocError> for WireError {
+    ghost from_gives = { λ _ r. r ≡ Memory };
+
+    fn from(_refused: AllocError) -> WireError {
+        WireError::Memory
     }
 }
 

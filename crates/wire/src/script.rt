@@ -5,7 +5,7 @@ use crate::fault::{Fault, Refusal};
 use net::Block;
 
 // One thing of a script: a block for a door, a word of a free place of a link, a round to play, all stores to show.
-#[derive(Clone, Copy)]
+#[derive(Clone, Copy, Debug, PartialEq, Eq)]
 pub enum Thing {
     Block(Block),
     Word(u16),

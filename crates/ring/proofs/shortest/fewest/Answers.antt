@@ -1,11 +1,11 @@
 -- One lowest member more. Assumes nothing.
-use Rattle.std.proofs.Common.{◌≡◌, ℕ, ◌+◌, Option, get_or, refl, vec_items, sym, ap, subst, ◌∙◌, arith}
-use Rattle.ring.specs.declared.best.Best.{Best}
+use Rattle.std.proofs.Common.{◌≡◌, ℕ, ◌+◌, Option, get_or, refl, vec_items, sym, ap, subst, arith, rules}
+use Rattle.ring.specs.declared.shortest.Best.{Best}
 use Rattle.ring.specs.Fewest.{FewestOf, members_of}
 use Rattle.ring.specs.Graph.{FeedsIn}
 use Rattle.ring.proofs.Least.{keeps_best, nothing_yet, takes_best}
 use Rattle.ring.proofs.shortest.fewest.Goals as goal
-use Rattle.ring.proofs.shortest.fewest.Goals.{in-Some, in-None, in-Some-members_below, in_default}
+use Rattle.ring.proofs.shortest.fewest.Goals.{in-Some, in_default}
 
 pub loop-low-init : goal.loop-low-init
 loop-low-init c = nothing_yet (FeedsIn c.args.graph.now) c.args.graph.now.channels
@@ -18,22 +18,19 @@ loop-low-preserved c =
     let o = c.loop-low.best in
     let back = c.in_ok-back.back in
     let a = vec_items back.numbers in
-    let most : c.match-best.most ≡ members_of n o = elim c.match-best.branch [
-      | in-Some w ↦ w.most-is ∙ sym (ap (members_of n) w.in-Some.is)
-      | in-None w ↦ w.most-is ∙ sym (ap (members_of n) w.in-None.is)
-    ] in
+    let m = c.map_or-most.result in
+    let most : m ≡ members_of n o = search rules in
     let e = c.in_ok-back.ensures in
-    let is : c.match-best.best ≡ o = elim c.match-best.branch [ in-Some w ↦ w.best-is ∙ sym w.in-Some.is | in-None w ↦ w.best-is ] in
     let at : get_or a back.to 0 ≡ get_or a y 0 = ap (λ (i : ℕ). get_or a i 0) e.0 in
     elim c.match-members_below.branch [
-      | in-Some-members_below w ↦
-          let h = w.in-Some-members_below.ensures in
+      | in-Some w ↦
+          let h = w.in-Some.ensures in
           subst (λ (b : Option Best). FewestOf H n (y + 1) b) (sym w.best-is)
-          (takes_best H n y c.match-best.most o a (record { low = y; members = w.in-Some-members_below.members }) most c.loop-low.invariant e.2 (omega (arith, h.0, h.2)) (omega (arith, h.1, h.2)) refl (omega (arith, h.2)))
+          (takes_best H n y m o a (record { low = y; members = w.in-Some.members }) most c.loop-low.invariant e.2 (omega (arith, h.0, h.2)) (omega (arith, h.1, h.2)) refl (omega (arith, h.2)))
       | in_default w ↦
           let h = w.in_default.ensures in
-          subst (λ (b : Option Best). FewestOf H n (y + 1) b) (sym (w.best-is ∙ is))
-          (keeps_best H n y c.match-best.most o a most c.loop-low.invariant e.2 (λ p. let g = h (omega arith) in omega arith))
+          subst (λ (b : Option Best). FewestOf H n (y + 1) b) (sym w.best-is)
+          (keeps_best H n y m o a most c.loop-low.invariant e.2 (λ p. let g = h (omega arith) in omega arith))
     ]
 
 pub returns : goal.returns

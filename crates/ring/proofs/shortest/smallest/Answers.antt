@@ -1,6 +1,6 @@
 -- None found means none; what is found is the smallest ring. Assumes nothing.
 use Rattle.std.proofs.Common.{◌≡◌, ℕ, ◌<◌, Bor, List, Option, Some, get_or, vec_items, sym, ap, subst, ◌∙◌, arith}
-use Rattle.ring.specs.declared.best.Best.{Best}
+use Rattle.ring.specs.declared.shortest.Best.{Best}
 use Rattle.ring.specs.declared.dependencies.Dependencies.{Dependencies}
 use Rattle.ring.specs.declared.distances.Distances.{Distances}
 use Rattle.ring.specs.Down.{LowestRing}

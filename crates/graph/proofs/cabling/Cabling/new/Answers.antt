@@ -1,9 +1,6 @@
-use Rattle.std.proofs.Common.{◌≡◌, ℕ, ◌<◌, List, ap, ◌∙◌, subst, refl}
+use Rattle.std.proofs.Common.{◌≡◌, ◌<◌, ap, ◌∙◌, subst, refl}
 use Rattle.std.proofs.lemmas.Result.{err_from_is_err_and}
-use Rattle.graph.specs.declared.link.Link.{Link}
-use Rattle.graph.specs.Cables.{graph_of}
 use Rattle.graph.specs.Graph.{Graph, graph_with}
-use Rattle.graph.specs.Layers.{Linked}
 use Rattle.graph.specs.Tree.{Joined, Lost, root}
 use Rattle.graph.proofs.Links.{linked_of, graph_links}
 use Rattle.graph.proofs.cabling.Cabling.new.Goals as goal

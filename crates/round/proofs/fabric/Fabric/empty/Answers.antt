@@ -7,50 +7,37 @@ use Rattle.round.specs.Link.{queue_of, free_of, turn_of}
 use Rattle.round.proofs.Starts.{new_state, same_for_each}
 use Rattle.round.proofs.fabric.Fabric.empty.Goals as goal
 
-queues : (c : goal.After-new) → map queue_of (vec_items c.in_ok-links.links) ≡ replicate c.args.plan.layout.links []
-queues c =
+links_made : (c : goal.After-new) → let n = c.args.plan.layout.links in
+    (map queue_of (vec_items c.in_ok-links.links) ≡ replicate n []) × (map free_of (vec_items c.in_ok-links.links) ≡ replicate n c.args.plan.layout.room) ×
+    (map turn_of (vec_items c.in_ok-links.links) ≡ replicate n 0)
+links_made c =
+    let l = c.args.plan.layout in
     let r = c.in_ok-links.ensures.ran in
-    let n = c.args.plan.layout.links in
-    ap (map queue_of) r.2.0 ∙
-    items_from_drains r.0 r.1 (YieldsList-from_map_by _ queue_of (λ _. []) (YieldsList-from_range 0 n n c.map.ensures.source (omega arith)) c.map.ensures.closure (λ x r q k. search rules)) ∙
-    same_for_each 0 n []
+    let f = c.map.ensures.closure in
+    let y = YieldsList-from_range 0 l.links l.links c.map.ensures.source (omega arith) in (
+      ap (map queue_of) r.2.0 ∙ items_from_drains r.0 r.1 (YieldsList-from_map_by _ queue_of (λ _. []) y f (λ x r q k. search rules)) ∙ same_for_each 0 l.links [],
+      ap (map free_of) r.2.0 ∙ items_from_drains r.0 r.1 (YieldsList-from_map_by _ free_of (λ _. l.room) y f (λ x r q k. search rules)) ∙ same_for_each 0 l.links l.room,
+      ap (map turn_of) r.2.0 ∙ items_from_drains r.0 r.1 (YieldsList-from_map_by _ turn_of (λ _. 0) y f (λ x r q k. search rules)) ∙ same_for_each 0 l.links 0,
+    )
 
-frees : (c : goal.After-new) → map free_of (vec_items c.in_ok-links.links) ≡ replicate c.args.plan.layout.links c.args.plan.layout.room
-frees c =
-    let r = c.in_ok-links.ensures.ran in
-    let n = c.args.plan.layout.links in
-    ap (map free_of) r.2.0 ∙
-    items_from_drains r.0 r.1 (YieldsList-from_map_by _ free_of (λ _. c.args.plan.layout.room) (YieldsList-from_range 0 n n c.map.ensures.source (omega arith)) c.map.ensures.closure (λ x r q k. search rules)) ∙
-    same_for_each 0 n c.args.plan.layout.room
-
-turns : (c : goal.After-new) → map turn_of (vec_items c.in_ok-links.links) ≡ replicate c.args.plan.layout.links 0
-turns c =
-    let r = c.in_ok-links.ensures.ran in
-    let n = c.args.plan.layout.links in
-    ap (map turn_of) r.2.0 ∙
-    items_from_drains r.0 r.1 (YieldsList-from_map_by _ turn_of (λ _. 0) (YieldsList-from_range 0 n n c.map.ensures.source (omega arith)) c.map.ensures.closure (λ x r q k. search rules)) ∙
-    same_for_each 0 n 0
-
-doors : (c : goal.After-new) → map deque_items (vec_items c.in_ok-doors.doors) ≡ replicate c.args.plan.layout.doors []
-doors c =
-    let r = c.in_ok-doors.ensures.ran in
+doors_made : (c : goal.After-new) → map deque_items (vec_items c.in_ok-doors.doors) ≡ replicate c.args.plan.layout.doors []
+doors_made c =
     let n = c.args.plan.layout.doors in
-    ap (map deque_items) r.2.0 ∙
-    items_from_drains r.0 r.1 (YieldsList-from_map_by _ deque_items (λ _. []) (YieldsList-from_range 0 n n c.map-2.ensures.source (omega arith)) c.map-2.ensures.closure (λ x r q k. search rules)) ∙
-    same_for_each 0 n []
+    let r = c.in_ok-doors.ensures.ran in
+    let y = YieldsList-from_range 0 n n c.map-2.ensures.source (omega arith) in
+    ap (map deque_items) r.2.0 ∙ items_from_drains r.0 r.1 (YieldsList-from_map_by _ deque_items (λ _. []) y c.map-2.ensures.closure (λ x r q k. search rules)) ∙ same_for_each 0 n []
 
 pub invariant_of-result : goal.invariant_of-result
 invariant_of-result c =
     let l = c.args.plan.layout in
-    let t = turns c in
-    let a = ap length (turns c) in
-    let b = ap length (doors c) in
+    let t = (links_made c).2 in
+    let d = doors_made c in
+    let a = ap length t in
+    let b = ap length d in
     let m = length-map (vec_items c.in_ok-links.links) turn_of in
     let n = length-map (vec_items c.in_ok-doors.doors) deque_items in
     let i = length-replicate {A = ℕ} l.links 0 in
     let j = length-replicate {A = List Block} l.doors [] in
-    let v = c.in_ok-links.ensures.ran.2 in
-    let w = c.in_ok-doors.ensures.ran.2 in
     let x = c.in_ok-links.links.ok.0 in
     let y = c.in_ok-doors.doors.ok.0 in
     record {
@@ -60,8 +47,9 @@ invariant_of-result c =
     }
 
 pub returns : goal.returns
-returns c = (
-  refl,
-  new_state (net_of c.args.plan.layout) (vec_items c.in_ok-links.links) (map deque_items (vec_items c.in_ok-doors.doors)) (vec_items c.new.result)
-      (queues c.before) (frees c.before) (turns c.before) (doors c.before) c.new.ensures.items,
-)
+returns c =
+    let m = links_made c.before in (
+      refl,
+      new_state (net_of c.args.plan.layout) (vec_items c.in_ok-links.links) (map deque_items (vec_items c.in_ok-doors.doors)) (vec_items c.new.result)
+          m.0 m.1 m.2 (doors_made c.before) c.new.ensures.items,
+    )

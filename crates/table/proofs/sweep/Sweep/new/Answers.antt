@@ -1,6 +1,7 @@
 use Rattle.std.proofs.Common.{vec_items, refl, arith}
 use Rattle.tree.specs.Planted.{graph_in, up_in}
 use Rattle.table.proofs.Sweeping.{first_layer}
+use Rattle.table.proofs.Trees.{few}
 use Rattle.table.proofs.Starting.{started_more}
 use Rattle.table.proofs.sweep.Sweep.new.Goals as goal
 
@@ -11,5 +12,5 @@ loop-i-preserved c =
 pub returns : goal.returns
 returns c = (
   refl,
-  first_layer (graph_in c.args.tree.now) (up_in c.args.tree.now) (vec_items c.loop-i.states) c.args.tree.now.cabling.few (λ i t l o. c.loop-i.invariant.own i t (omega arith)) c.loop-i.invariant.here,
+  first_layer (graph_in c.args.tree.now) (up_in c.args.tree.now) (vec_items c.loop-i.states) (few c.args.tree.now) (λ i t l o. c.loop-i.invariant.own i t (omega arith)) c.loop-i.invariant.here,
 )
