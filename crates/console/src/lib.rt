@@ -1,58 +1,10 @@
-// What the programs share: how a file is read, how a refusal is told, and how a program ends that failed.
+// What the programs share: how words and files are read, why a program fails, and how it ends.
 #![tactic(auto)]
 
-use anyhow::anyhow;
-use report::{Notice, Source};
-use std::io::{Read, Write};
-use std::process::ExitCode;
-use std::{fs, io};
-use wire::WireError;
+mod ends;
+mod failure;
+mod given;
 
-// The bytes of a file; `-` is standard input.
-fn read(rt: &HostRuntime, name: &str) -> io::Result<Vec<u8>> {
-    if name == "-" {
-        let mut bytes = Vec::new(rt.alloc());
-        rt.stdin().read_to_end(&mut bytes)?;
-        return Ok(bytes);
-    }
-    fs::read(rt, name)
-}
-
-// The bytes of a file, or none where it can't be read, which is then told.
-pub fn load(rt: &HostRuntime, program: &str, name: &str) -> io::Result<Option<Vec<u8>>> {
-    match read(rt, name) {
-        Ok(bytes) => Ok(Some(bytes)),
-        Err(_) => {
-            eprintln!(rt; "{program}: cannot read {name}")?;
-            Ok(None)
-        }
-    }
-}
-
-// Writes text to standard output in one piece.
-pub fn put(rt: &HostRuntime, text: &str) -> io::Result<()> {
-    rt.stdout().write_all(text.as_bytes())
-}
-
-// Tells why a file gave no value: its fault, or want of memory.
-pub fn refuse(rt: &HostRuntime, source: Source, error: WireError) -> anyhow::Result<()> {
-    match error {
-        WireError::Memory => Err(anyhow!("no memory")),
-        WireError::Refused(refusal) => {
-            eprintln!(rt; "{}", Notice { refusal, source })?;
-            Ok(())
-        }
-    }
-}
-
-// How a program ends: with status 0 if all went well, else with status 1; a cause that was not told yet is told first.
-pub fn finish(rt: &HostRuntime, program: &str, done: anyhow::Result<bool>) -> ExitCode {
-    match done {
-        Ok(true) => ExitCode::SUCCESS,
-        Ok(false) => ExitCode::FAILURE,
-        Err(cause) => {
-            let _ = eprintln!(rt; "{program}: {cause}");
-            ExitCode::FAILURE
-        }
-    }
-}
+pub use ends::{end, put};
+pub use failure::Failure;
+pub use given::{read, words};

@@ -66,10 +66,8 @@ added_more g old sets k n f h s t l w = ⊎_elim here other (cases_eq s (g.from 
         ∙ sym more
 
 -- what the code writes for link k
-pub added_link : (g : Graph) (old sets : List ℕ) (k i v w : ℕ) → length sets ≡ length old → g.from k < length old → i ≡ g.from k → v ≡ get_or sets i 0 → w ≡ get_or old (g.to k) 0 →
-    Added g old k sets → Added g old (k + 1) (set sets i (bit_or v w))
-added_link g old sets k i v w n f p q r h =
-    let a : v ≡ get_or sets (g.from k) 0 = q ∙ ap (λ (x : ℕ). get_or sets x 0) p in
-    subst (λ (x : ℕ). Added g old (k + 1) (set sets x (bit_or v w))) (sym p)
-    (subst (λ (x : ℕ). Added g old (k + 1) (set sets (g.from k) (bit_or x w))) (sym a)
-    (subst (λ (x : ℕ). Added g old (k + 1) (set sets (g.from k) (bit_or (get_or sets (g.from k) 0) x))) (sym r) (added_more g old sets k n f h)))
+pub added_link : (g : Graph) (old sets : List ℕ) (k i u v w : ℕ) → length sets ≡ length old → g.from k < length old →
+    i ≡ g.from k → u ≡ bit_or v w → v ≡ get_or sets i 0 → w ≡ get_or old (g.to k) 0 → Added g old k sets → Added g old (k + 1) (set sets i u)
+added_link g old sets k i u v w n f p o q r h =
+    let a : u ≡ bit_or (get_or sets (g.from k) 0) (get_or old (g.to k) 0) = o ∙ ap (λ (x : ℕ). bit_or x w) (q ∙ ap (λ (x : ℕ). get_or sets x 0) p) ∙ ap (bit_or (get_or sets (g.from k) 0)) r in
+    subst (λ (x : ℕ). Added g old (k + 1) (set sets x u)) (sym p) (subst (λ (x : ℕ). Added g old (k + 1) (set sets (g.from k) x)) (sym a) (added_more g old sets k n f h))

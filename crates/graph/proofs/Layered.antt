@@ -1,5 +1,5 @@
 -- The code's layers are those of the definition. Assumes nothing.
-use Rattle.std.proofs.Common.{◌≡◌, ℕ, zero, suc, ◌+◌, ◌*◌, ◌%◌, ◌^◌, ◌<◌, ◌≤◌, Bool, ◌&&◌, ◌||◌, eqb, List, length, get_or, map, sym, refl, ap, ◌∙◌, subst, ⊎_elim, arith}
+use Rattle.std.proofs.Common.{◌≡◌, ℕ, zero, suc, ◌^◌, ◌<◌, ◌≤◌, Bool, ◌&&◌, ◌||◌, eqb, List, length, get_or, map, sym, refl, ap, ◌∙◌, arith}
 use Rattle.std.specs.List.{range_with_len}
 use Rattle.std.proofs.lemmas.List.FromFn.{get_or-map-range_with_len}
 use Rattle.roads.specs.Numbers.{some}
@@ -9,7 +9,7 @@ use Rattle.graph.specs.Sets.{has}
 use Rattle.graph.specs.Graph.{Graph, Ends}
 use Rattle.graph.specs.Tree.{plain, at}
 use Rattle.graph.specs.Layers.{Reached, Added}
-use Rattle.graph.proofs.Bits.{has_shl}
+use Rattle.graph.proofs.Bits.{has_one}
 
 pub some_same : (f g : ℕ → Bool) (n : ℕ) → ((k : ℕ) → k < n → f k ≡ g k) → some f n ≡ some g n
 unfolding some
@@ -28,8 +28,7 @@ reached_more g old sets j e q few a h s t l w =
     ∙ sym (within_layer (plain g) (at t) j s)
 
 -- sets of one switch each
-pub reached_none : (g : Graph) (sets : List ℕ) → g.n ≤ 64 → sets ≡ map (λ s. (1 * 2 ^ s) % 2 ^ 64) (range_with_len 0 g.n) → Reached g 0 sets
-reached_none g sets few e s t l w =
-    let a : get_or sets s 0 ≡ (1 * 2 ^ s) % 2 ^ 64 =
-    ap (λ (xs : List ℕ). get_or xs s 0) e ∙ get_or-map-range_with_len (λ (i : ℕ). (1 * 2 ^ i) % 2 ^ 64) 0 g.n s s 0 l (omega arith) in
-    ap (λ (v : ℕ). has v t) a ∙ has_shl s t (omega arith) ∙ sym (within_zero (plain g) (at t) s)
+pub reached_none : (g : Graph) (sets : List ℕ) → sets ≡ map (λ s. 2 ^ s) (range_with_len 0 g.n) → Reached g 0 sets
+reached_none g sets e s t l w =
+    let a : get_or sets s 0 ≡ 2 ^ s = ap (λ (xs : List ℕ). get_or xs s 0) e ∙ get_or-map-range_with_len (λ (i : ℕ). 2 ^ i) 0 g.n s s 0 l (omega arith) in
+    ap (λ (v : ℕ). has v t) a ∙ has_one s t ∙ sym (within_zero (plain g) (at t) s)

@@ -1,4 +1,4 @@
--- The links of a list of cables: there are two for each, both between switches that are there, and one goes back where the other came from. Assumes nothing.
+-- The links of a list of cables: there are two for each, there_and_back between switches that are there, and one goes back where the other came from. Assumes nothing.
 use Rattle.std.proofs.Common.{◌≡◌, ℕ, zero, suc, ◌+◌, ◌-◌, ◌*◌, ◌%◌, ◌<◌, ◌≤◌, eqb, List, [], ◌∷◌, ◌++◌, map, length, get_or, take, sym, refl, ap, ◌∙◌, subst, ⊎_elim, arith}
 use Rattle.std.proofs.lemmas.Bool.{cases_eq, cases_lt, cond-true, cond-false, eq-eqb, ne_eqb}
 use Rattle.std.proofs.Math.ListN.{get_or-map, length-map}
@@ -6,7 +6,7 @@ use Rattle.std.proofs.lemmas.List.{flat_map_more, take_more}
 use Rattle.net.specs.declared.Cable.{Cable}
 use Rattle.graph.specs.declared.link.Link.{Link}
 use Rattle.graph.specs.Graph.{TwoWay, Ends, partner, graph_by, graph_with, no_link}
-use Rattle.graph.specs.Cables.{froms, tos, graph_of, both, links_of}
+use Rattle.graph.specs.Cables.{froms, tos, graph_of, there_and_back, links_of}
 use Rattle.graph.specs.Layers.{Linked}
 use Rattle.graph.specs.Refusal.{Fine, no_cable}
 
@@ -36,17 +36,12 @@ tos_links (c ∷ cs) = ap (λ (xs : List ℕ). c.b ∷ c.a ∷ xs) (tos_links cs
 pub graph_links : (n : ℕ) (cs : List Cable) → graph_with n (links_of cs) ≡ graph_of n cs
 graph_links n cs = ap (λ (fs : List ℕ). graph_by n fs (map (λ l. l.to) (links_of cs))) (froms_links cs) ∙ ap (λ (ts : List ℕ). graph_by n (froms cs) ts) (tos_links cs)
 
-pub links_more : (cs : List Cable) (i : ℕ) (ls : List Link) → i < length cs → ls ≡ links_of (take i cs) →
-    ls ++ both (get_or cs i no_cable) ≡ links_of (take (i + 1) cs)
-links_more cs i ls l e =
-    ap (λ (xs : List Link). xs ++ both (get_or cs i no_cable)) e ∙ flat_map_more both [] (take i cs) (get_or cs i no_cable) ∙ ap links_of (sym (take_more cs i no_cable l))
-
 pub length_froms : (cs : List Cable) → length (froms cs) ≡ 2 * length cs
 unfolding froms
 length_froms [] = refl
 length_froms (c ∷ cs) = let h = length_froms cs in omega arith
 
--- what holds of both links of every cable holds of every link
+-- what holds of there_and_back links of every cable holds of every link
 each_link : (P : ℕ → ℕ → Type 0) (cs : List Cable) → ((i : ℕ) → i < length cs → P (get_or cs i no_cable).a (get_or cs i no_cable).b × P (get_or cs i no_cable).b (get_or cs i no_cable).a) →
     (k : ℕ) → k < length (froms cs) → P (get_or (froms cs) k 0) (get_or (tos cs) k 0)
 unfolding froms tos

@@ -79,9 +79,6 @@ module _ (g : Graph) where
             none = λ k l. ⊎_elim (λ (m : k < r). h.none k m) (λ m. let p : j ≡ k = omega arith in subst (λ (v : ℕ). within (plain g) (at root₁) v s ≡ false) p e) (cases_lt k r);
           })
 
-  pub level_none : (root₁ s r : ℕ) → r ≡ 0 → Least (λ i. within (plain g) (at root₁) i s) 0 r
-  level_none root₁ s r e = record { fits = omega arith; passes = λ l. absurd (omega arith); none = λ k l. absurd (omega arith) }
-
   pub level_all : (root₁ s r j : ℕ) → j ≡ g.n → Least (λ i. within (plain g) (at root₁) i s) j r → r ≡ level g root₁ s
   level_all root₁ s r j q h = shortest_is (plain g) (at root₁) g.n r s (subst (λ (v : ℕ). Least (λ i. within (plain g) (at root₁) i s) v r) q h)
 

@@ -19,9 +19,9 @@ abbrev pub graph_of : ℕ → List Cable → Graph
 graph_of n cs = graph_by n (froms cs) (tos cs)
 
 -- the two links of a cable
-abbrev pub both : Cable → List Link
-both c = record { from = c.a; to = c.b } ∷ record { from = c.b; to = c.a } ∷ []
+abbrev pub there_and_back : Cable → List Link
+there_and_back c = record { from = c.a; to = c.b } ∷ record { from = c.b; to = c.a } ∷ []
 
 -- the links themselves
 abbrev pub links_of : List Cable → List Link
-links_of cs = flat_map both cs
+links_of cs = flat_map there_and_back cs

@@ -1,5 +1,5 @@
 -- What the code's sets hold, layer by layer. Assumes nothing.
-use Rattle.std.specs.Prelude.{◌≡◌, ℕ, ◌-◌, ◌<◌, ◌≤◌, Bool, ◌&&◌, ◌||◌, List, length, Option, MatchOption, Result, MatchResult, ◌==◌, ◌≢◌, slice_index}
+use Rattle.std.specs.Prelude.{◌≡◌, ℕ, ◌-◌, ◌<◌, ◌≤◌, Bool, ◌&&◌, ◌||◌, List, length, Option, MatchOption, ◌==◌, ◌≢◌, slice_index}
 use Rattle.roads.specs.Numbers.{Least, some}
 use Rattle.roads.specs.Roads.{within}
 use Rattle.graph.specs.Sets.{has}

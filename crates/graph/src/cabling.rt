@@ -1,7 +1,7 @@
 ghost use Rattle.std.specs.Prelude.{◌≡◌, ◌<◌};
 ghost use Rattle.graph.specs.Graph.{graph_with};
 ghost use Rattle.graph.specs.Layers.{Linked};
-ghost use Rattle.graph.specs.Tree.{Joined, root as «root-spec»};
+ghost use Rattle.graph.specs.Tree as tree;
 
 use crate::Link;
 
@@ -12,7 +12,7 @@ pub struct Cabling {
     pub links: Vec<Link>,
     pub root: usize,
     ghost linked: { Linked (graph_with switches links.items) },
-    ghost joined: { Joined (graph_with switches links.items) },
+    ghost joined: { tree.Joined (graph_with switches links.items) },
     ghost inside: { root < switches },
-    ghost center: { root ≡ «root-spec» (graph_with switches links.items) },
+    ghost center: { root ≡ tree.root (graph_with switches links.items) },
 }

@@ -1,8 +1,6 @@
 ghost use Rattle.std.specs.Prelude.{◌≡◌};
-ghost use Rattle.graph.specs.declared.error.CableError.TheVariants.{Lost as «lost-variant», Memory as «memory-variant»};
-ghost use Rattle.graph.specs.declared.error.TreeError.TheVariants.{Memory as «no-memory»};
 
-use std::alloc::{AllocError, AllocFailed};
+use std::alloc::AllocError;
 
 // Why a list of cables is refused: no switch or more than 64; more than 128 cables; a cable with a switch that is not
 // there; a cable from a switch to itself; not all switches are joined, told with the lowest that cannot be reached from
@@ -18,24 +16,28 @@ pub enum CableError {
 }
 
 impl From<AllocError> for CableError {
-    ghost from_gives = { λ _ r. r ≡ «memory-variant» };
+    ghost use Rattle.graph.specs.declared.error.CableError.TheVariants.{Memory};
+
+    ghost from_gives = { λ _ r. r ≡ Memory };
 
     fn from(_e: AllocError) -> CableError {
         CableError::Memory
     }
 }
 
-// The lowest switch that cannot be reached from switch 0.
+// Not all switches are joined: the lowest that cannot be reached from switch 0.
 #[derive(Clone, Copy)]
-pub(crate) struct Lost {
-    pub(crate) switch: usize,
+pub(crate) struct NotJoined {
+    pub(crate) lost: usize,
 }
 
-impl From<Lost> for CableError {
-    ghost from_gives = { λ e r. r ≡ «lost-variant» e.switch };
+impl From<NotJoined> for CableError {
+    ghost use Rattle.graph.specs.declared.error.CableError.TheVariants.{Lost};
 
-    fn from(e: Lost) -> CableError {
-        CableError::Lost { switch: e.switch }
+    ghost from_gives = { λ e r. r ≡ Lost e.lost };
+
+    fn from(e: NotJoined) -> CableError {
+        CableError::Lost { switch: e.lost }
     }
 }
 
@@ -47,7 +49,9 @@ pub enum TreeError {
 }
 
 impl From<AllocError> for TreeError {
-    ghost from_gives = { λ _ r. r ≡ «no-memory» };
+    ghost use Rattle.graph.specs.declared.error.TreeError.TheVariants.{Memory};
+
+    ghost from_gives = { λ _ r. r ≡ Memory };
 
     fn from(_e: AllocError) -> TreeError {
         TreeError::Memory

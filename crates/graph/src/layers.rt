@@ -1,30 +1,31 @@
-ghost use Rattle.std.specs.Prelude.{◌≡◌, ℕ, suc, ◌+◌, ◌*◌, ◌%◌, ◌^◌, ◌<◌, ◌≤◌, map, length, All, vec_len, IfOk, MatchResult, if◌then◌else◌, slice_index};
+ghost use Rattle.std.specs.Prelude.{◌≡◌, ℕ, suc, ◌+◌, ◌^◌, ◌<◌, ◌≤◌, map, length, All, vec_len, IfOk, MatchResult, if◌then◌else◌, slice_index};
 ghost use Rattle.std.specs.List.{range_with_len};
 ghost use Rattle.graph.specs.Graph.{graph_with};
 ghost use Rattle.graph.specs.Layers.{Center, Finds, Levelled, Linked, Reached};
-ghost use Rattle.graph.specs.Sets.{has as «has-spec»};
-ghost use Rattle.graph.specs.Tree.{Joined, Lost as «Lost-spec», root};
+ghost use Rattle.graph.specs.Sets.{has};
+ghost use Rattle.graph.specs.Tree.{Joined, Lost, root};
 ghost use Rattle.roads.specs.Numbers.{every};
 
 use crate::Link;
-use crate::error::Lost;
-use crate::sets::{full, has, lowest_missing};
+use crate::error::NotJoined;
+use crate::sets::Set;
 use std::alloc::{AllocError, Global};
 
 // Sets of one switch each.
-fn alone(heap: Global, switches: usize) -> Result<Vec<u64>, AllocError>
+fn alone(heap: Global, switches: usize) -> Result<Vec<Set>, AllocError>
     requires { switches ≤ 64 }
-    ensures { IfOk result (λ v. v.items ≡ map (λ s. (1 * 2 ^ s) % 2 ^ 64) (range_with_len 0 switches)) }
+    ensures { IfOk result (λ v. v.items ≡ map (λ s. 2 ^ s) (range_with_len 0 switches)) }
 {
-    (0..switches).map(|s| 1u64 << s).collect(heap)
+    (0..switches).map(Set::of).collect(heap)
 }
 
-// Which switches each switch has reached over these links, layer by layer; `before` has room for those of the layer before.
+// Which switches each switch has reached over these links, layer by layer; `before` has room for the sets of the layer
+// before.
 #[derive(Drop)]
 pub(crate) struct Layers<'a> {
     links: &'a [Link],
-    before: Vec<u64>,
-    sets: Vec<u64>,
+    before: Vec<Set>,
+    sets: Vec<Set>,
     ghost same: { vec_len before ≡ vec_len sets },
     ghost linked: { Linked (graph_with (vec_len sets) links.now) },
 }
@@ -42,7 +43,7 @@ impl<'a> Layers<'a> {
         ensures { IfOk result (λ y. (over y ≡ graph_with switches links.now) × Reached (over y) 0 y.sets.items) }
     {
         let sets = alone(heap, switches)?;
-        let before = vec![in heap; 0u64; switches]?;
+        let before = vec![in heap; Set::empty(); switches]?;
         Ok(Layers {
             links,
             before,
@@ -62,16 +63,16 @@ impl<'a> Layers<'a> {
         } = self;
         before.copy_from_slice(sets);
         for link in *links {
-            sets[usize::from(link.from)] |= before[usize::from(link.to)];
+            sets[usize::from(link.from)].add(before[usize::from(link.to)]);
         }
     }
 
     // The first switch that has reached all.
     fn first_full(&self) -> Option<usize>
-        ensures { Finds (λ s. every («has-spec» (slice_index self.now.sets.items s)) (over self.now).n) (over self.now).n result }
+        ensures { Finds (λ s. every (has (slice_index self.now.sets.items s)) (over self.now).n) (over self.now).n result }
     {
         let switches = self.sets.len();
-        self.sets.iter().position(|set| full(*set, switches))
+        self.sets.iter().position(|set| set.is_full(switches))
     }
 
     // The root: the first switch, layer by layer, that has reached all.
@@ -90,14 +91,14 @@ impl<'a> Layers<'a> {
     }
 
     // The root, if all switches are joined.
-    pub(crate) fn join(mut self) -> Result<usize, Lost>
+    pub(crate) fn join(mut self) -> Result<usize, NotJoined>
         requires { Reached (over self) 0 self.sets.items }
-        ensures { MatchResult result (λ r. (r ≡ root (over self.entry)) × (r < (over self.entry).n) × Joined (over self.entry)) (λ e. «Lost-spec» (over self.entry) e.switch) }
+        ensures { MatchResult result (λ r. (r ≡ root (over self.entry)) × (r < (over self.entry).n) × Joined (over self.entry)) (λ e. Lost (over self.entry) e.lost) }
     {
         match self.center() {
             Some(root) => Ok(root),
-            None => Err(Lost {
-                switch: lowest_missing(self.sets[0], self.sets.len()).unwrap(),
+            None => Err(NotJoined {
+                lost: self.sets[0].lowest_missing(self.sets.len()).unwrap(),
             }),
         }
     }
@@ -106,11 +107,11 @@ impl<'a> Layers<'a> {
     fn count(&self, root: usize, levels: &mut [u8])
         requires same { length levels.old ≡ vec_len self.now.sets }
         requires small { All (λ l. l < 255) levels.old }
-        ensures { (s : ℕ) → s < vec_len self.now.sets → slice_index levels.new s ≡ slice_index levels.old s + (if «has-spec» (slice_index self.now.sets.items s) root then 0 else 1) }
+        ensures { (s : ℕ) → s < vec_len self.now.sets → slice_index levels.new s ≡ slice_index levels.old s + (if has (slice_index self.now.sets.items s) root then 0 else 1) }
     {
         // Over a zip of `levels` and `sets` the proof would not know what `levels` holds.
         for (s, level) in levels.iter_mut().enumerate() {
-            if !has(self.sets[s], root) {
+            if !self.sets[s].has(root) {
                 *level += 1;
             }
         }

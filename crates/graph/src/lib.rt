@@ -10,7 +10,6 @@ mod error;
 mod laws;
 mod layers;
 mod link;
-mod linking;
 mod making;
 mod sets;
 

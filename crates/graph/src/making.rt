@@ -3,8 +3,7 @@ ghost use Rattle.std.specs.Prelude.{MatchResult};
 
 use crate::check::check;
 use crate::layers::Layers;
-use crate::linking::links_of;
-use crate::{Cable, CableError, Cabling, TreeError};
+use crate::{Cable, CableError, Cabling, Link, TreeError};
 use std::alloc::Global;
 
 impl Cabling {
@@ -13,7 +12,7 @@ impl Cabling {
         ensures { MatchResult result (λ g. Accepts switches cables.now g) (λ e. Refuses switches cables.now e) }
     {
         check(switches, cables)?;
-        let links = links_of(heap, cables)?;
+        let links = Link::list(heap, cables)?;
         let root = Layers::start(heap, switches, &links)?.join()?;
         Ok(Cabling {
             switches,

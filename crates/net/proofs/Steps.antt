@@ -1,7 +1,6 @@
 -- One link more in the order of serving, as the code goes through them.
-use Rattle.std.proofs.Common.{◌≡◌, ℕ, ◌+◌, ◌<◌, ◌≤◌, false, ◌||◌, ltb, List, [], All, sym, refl, ap, ◌∙◌, subst, add-one, arith}
+use Rattle.std.proofs.Common.{◌≡◌, ℕ, ◌+◌, ◌<◌, ◌≤◌, List, [], All, sym, refl, ap, ◌∙◌, subst, add-one, arith}
 use Rattle.std.specs.List.{insert}
-use Rattle.std.proofs.lemmas.Bool.{le-ltb, or_from}
 use Rattle.std.proofs.lemmas.List.Elements.{All-from_get_or}
 use Rattle.net.specs.Order.{insert_by, order, Serves}
 use Rattle.net.specs.Position.{position}
@@ -27,6 +26,3 @@ order_serves r n es e = subst (λ (xs : List ℕ). Serves r n xs) (sym e) (in_or
 -- every link in the order has a rank, where there are m ranks
 pub order_known : (r : ℕ → ℕ) (n m : ℕ) (es : List ℕ) → es ≡ order r n → n ≤ m → All (λ k. k < m) es
 order_known r n m es e h = All-from_get_or (λ k. k < m) es 0 (λ k l. let s = order_serves r n es e in let z = s.size in let w = s.within k (omega arith) in omega arith)
-
-pub neither : (a b c : ℕ) → c ≤ a → c ≤ b → (ltb a c || ltb b c) ≡ false
-neither a b c h g = or_from (ltb a c) (ltb b c) (le-ltb a c h) (le-ltb b c g)

@@ -2,8 +2,6 @@
 use Rattle.std.proofs.Common.{◌≡◌, ℕ, zero, suc, ◌+◌, ◌<◌, ◌≤◌, Bool, true, false, cond, ltb, ◌⊎◌, List, [], ◌∷◌, map, length, get_or, Ok, Err, vec_items, sym, refl, ap, ◌∙◌, subst, inl, inr, ⊎_elim, arith}
 use Rattle.std.proofs.lemmas.List.{length-map}
 use Rattle.std.proofs.lemmas.Bool.{and_from, both_ways, cases_Bool, cases_lt, or_from, or_left, or_right, cond-true, cond-false, lt-ltb, le-ltb, le-leb, lt-leb}
-use Rattle.net.specs.declared.Entry.{Entry}
-use Rattle.net.specs.declared.Entry.TheVariants.{Here, Link}
 use Rattle.net.specs.declared.layout.Layout.{Layout}
 use Rattle.net.specs.declared.plan.Plan.{Plan}
 use Rattle.net.specs.Layout.{FirstOfAll, net_of, rises_to, rises_at}
@@ -12,17 +10,20 @@ use Rattle.machine.specs.Waits.{patience, wait}
 use Rattle.roads.specs.Numbers.{some}
 use Rattle.roads.proofs.Below.{least_is, some_from, some_one}
 use Rattle.roads.proofs.Roads.{one_so_short}
-use Rattle.graph.specs.Graph.{Graph}
+use Rattle.graph.specs.Graph.{Graph, graph_with}
+use Rattle.graph.specs.declared.cabling.Cabling.{Cabling}
+use Rattle.graph.specs.declared.link.Link.{Link}
+use Rattle.graph.proofs.Links.{graph_links}
 use Rattle.net.specs.declared.Cable.{Cable}
-use Rattle.graph.specs.Refusal.{Fine, Sound, Until, no_cable}
+use Rattle.graph.specs.Refusal.{Accepts, graph_of_cabling}
 use Rattle.graph.specs.Tree.{Joined, Lost, at, distance, plain}
 use Rattle.tree.specs.declared.planted.Tree.{Tree}
+use Rattle.tree.specs.Made.{Planted}
 use Rattle.table.specs.Laid.{net_for}
 use Rattle.table.specs.Promised.{LaidOut, graph_in}
 use Rattle.table.proofs.Served.{laid_net}
 use Rattle.tree.proofs.Growing.{sound_in}
 use Rattle.waits.specs.Working.{Exceeds, Within, longest}
-use Rattle.net.specs.declared.Cable.{Cable as Read}
 use Rattle.wire.specs.declared.fault.Fault.TheVariants.{Apart, TooLong}
 use Rattle.wire.specs.declared.fault.Refusal.{Refusal}
 use Rattle.wire.specs.declared.fault.WireError.{WireError}
@@ -31,31 +32,8 @@ use Rattle.wire.specs.Faults.{refusal}
 use Rattle.net.specs.Cables.{Joins}
 use Rattle.wire.specs.Cables.{Cables, Proper, cables_read}
 use Rattle.wire.specs.Pairs.{Each}
-use Rattle.plan.specs.Halls.{taken, graph_for, judged, lost, hall_net, read_hall, then_judged, too_long}
+use Rattle.plan.specs.Halls.{graph_for, judged, lost, hall_net, read_hall, then_judged, too_long}
 use Rattle.plan.specs.Built.{Drawn, Grown, Late, Refuses, Serving, Severed}
-
-each_at : (n : ℕ) (cs : List Read) → Each (Joins n) cs → (i : ℕ) → i < length (map taken cs) → Sound n (get_or (map taken cs) i no_cable)
-each_at n [] e i l = absurd (omega arith)
-each_at n (c ∷ cs) e zero l = record { a = e.0.from; b = e.0.to; apart = e.0.apart }
-each_at n (c ∷ cs) e (suc i) l = each_at n cs e.1 i (omega arith)
-
--- what can be written can be laid
-pub fine : (c : Cables) → Proper c → Fine c.switches (map taken c.cables)
-fine c p = record {
-  sizes = record { some = p.some; few = p.most; short = (let l = length-map c.cables taken in let f = p.few in omega arith) };
-  sound = each_at c.switches c.cables p.each;
-}
-
--- in a good net no entry falls
-pub never_falls : (l : Layout) (c p : ℕ) → Good (net_of l) → FirstOfAll l c p → ⊥
-never_falls l c p g f = both_ways (rises_at l c p) f.here.falls (go ((net_of l).next c p) refl)
-  where
-    go : (n : Entry) → (net_of l).next c p ≡ n → rises_to l c n ≡ true
-    go Here q = refl
-    go (Link e) q =
-        let r = g.rises c p e q in
-        and_from (ltb e l.links) (ltb (get_or (vec_items l.ranks) c 0) (get_or (vec_items l.ranks) e 0)) (lt-ltb e l.links r.0)
-        (lt-ltb (get_or (vec_items l.ranks) c 0) (get_or (vec_items l.ranks) e 0) r.1)
 
 -- the lowest switch that cannot be reached is the one that is told
 pub lost_is : (g : Graph) (s : ℕ) → Lost g s → s ≡ lost g
@@ -125,12 +103,16 @@ module _ (bs : List ℕ) (c : Cables) (p : Proper c) (q : cables_read bs ≡ Ok 
   severed_is (Refused x) (s, l, r) = apart_is s l ∙ ap (λ (y : Refusal). Err y) (sym r)
   severed_is Memory u = tt
 
-pub no_stray : (n k : ℕ) (cs : List Cable) → Fine n cs → Until n cs k × ((n ≤ (get_or cs k no_cable).a) ⊎ (n ≤ (get_or cs k no_cable).b)) → ⊥
-no_stray n k cs f (u, inl h) = let j = (f.sound k u.below).a in omega arith
-no_stray n k cs f (u, inr h) = let j = (f.sound k u.below).b in omega arith
-
-pub no_loop : (n k : ℕ) (cs : List Cable) → Fine n cs → Until n cs k × ((get_or cs k no_cable).a < n) × ((get_or cs k no_cable).a ≡ (get_or cs k no_cable).b) → ⊥
-no_loop n k cs f (u, l, e) = (f.sound k u.below).apart e
+-- the tree that was planted of an accepted list, with its own root
+pub grown : (c : Cables) (g : Cabling) (t : Tree) → Accepts c.switches c.cables g → Planted g g.root t → Grown c t
+grown c g t a p = record {
+  joined = a.joined;
+  graph =
+      ap graph_of_cabling p.cabling
+      ∙ (ap (λ (n : ℕ). graph_with n (vec_items g.links)) a.switches
+      ∙ (ap (λ (ls : List Link). graph_with c.switches ls) a.links ∙ graph_links c.switches c.cables));
+  root = p.root ∙ a.root;
+}
 
 -- the plan that was drawn of a grown tree is of the prescribed net
 pub drawn_net : (c : Cables) (t : Tree) (p : Plan) → Grown c t → Drawn t c.room p → net_of p.layout ≡ hall_net c

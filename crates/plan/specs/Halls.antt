@@ -1,27 +1,21 @@
 -- What a file of cables comes to: its list, where all switches are joined and no bound is too long, or its first fault. Assumes nothing.
-use Rattle.std.specs.Prelude.{ℕ, ◌+◌, Bool, cond, ◌||◌, ltb, List, length, map, Ok, Err, Result, nat_le, nat_lt}
+use Rattle.std.specs.Prelude.{ℕ, ◌+◌, Bool, cond, ◌||◌, List, length, Ok, Err, Result, nat_le, nat_lt}
 use Rattle.net.specs.Net.{Net, channels}
 use Rattle.machine.specs.Waits.{patience, wait}
 use Rattle.roads.specs.Numbers.{least, some}
 use Rattle.graph.specs.Graph.{Graph}
-use Rattle.net.specs.declared.Cable.{Cable}
 use Rattle.graph.specs.Cables.{graph_of}
 use Rattle.graph.specs.Tree.{distance, root}
 use Rattle.table.specs.Laid.{net_for}
 use Rattle.waits.specs.Working.{longest}
-use Rattle.net.specs.declared.Cable.{Cable as Read}
 use Rattle.wire.specs.declared.fault.Fault.TheVariants.{Apart, TooLong}
 use Rattle.wire.specs.declared.fault.Refusal.{Refusal}
 use Rattle.wire.specs.Faults.{refusal}
 use Rattle.wire.specs.Cables.{Cables, cables_read}
 
--- a cable that was read, as a graph takes it
-abbrev pub taken : Read → Cable
-taken c = record { a = c.a; b = c.b }
-
 -- the graph of a list of cables
 abbrev pub graph_for : Cables → Graph
-graph_for c = graph_of c.switches (map taken c.cables)
+graph_for c = graph_of c.switches c.cables
 
 -- its net, with the prescribed root
 abbrev pub hall_net : Cables → Net
@@ -34,8 +28,8 @@ lost g = least (λ s. nat_le g.n (distance g 0 s)) g.n
 -- some patience, or some wait from a door to a place with nothing before, is above the limit
 unfoldable pub too_long : Net → Bool
 too_long z =
-    some (λ c. ltb longest (patience z c)) (channels z)
-    || some (λ d. some (λ p. ltb longest (wait z 0 (z.links + d) p)) z.places) z.doors
+    some (λ c. nat_lt longest (patience z c)) (channels z)
+    || some (λ d. some (λ p. nat_lt longest (wait z 0 (z.links + d) p)) z.places) z.doors
 
 -- what is looked at when all cables are read; such a fault stands at the end of the file
 abbrev pub judged : ℕ → Cables → Result Cables Refusal

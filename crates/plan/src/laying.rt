@@ -1,60 +1,39 @@
-ghost use Rattle.std.specs.Prelude.{◌≡◌, ◌<◌, ◌≤◌, IfOk, MatchResult, map};
+ghost use Rattle.std.specs.Prelude.{◌≡◌, ◌<◌, ◌≤◌, MatchResult};
 ghost use Rattle.graph.specs.Refusal.{Accepts};
 ghost use Rattle.net.specs.Layout.{net_of};
 ghost use Rattle.plan.specs.Built.{Drawn, Grown, Late, Lays, Refuses, Severed};
-ghost use Rattle.plan.specs.Halls.{graph_for, taken as «taken_by»};
+ghost use Rattle.plan.specs.Halls.{graph_for};
+ghost use Rattle.table.specs.Promised.{LaidOut};
 ghost use Rattle.waits.specs.Working.{Within};
 ghost use Rattle.wire.specs.Cables.{Proper, listed};
-ghost use Rattle.wire.specs.Faults.{refusal};
-ghost use Rattle.wire.specs.declared.fault.WireError.TheVariants.{Memory, Refused as «refused»};
+ghost use Rattle.wire.specs.declared.fault.WireError.TheVariants.{Memory};
 
 use crate::hall::Hall;
-use graph::{Cable, CableError, Cabling, TreeError};
-use net::{Plan, PlanError};
-use std::alloc::{AllocError, Global};
+use graph::{CableError, Cabling, TreeError};
+use net::{Layout, Plan, PlanError};
+use std::alloc::Global;
 use table::{LayoutError, lay};
 use tree::Tree;
 use waits::{Bounds, WaitError};
-use wire::{CableList, Fault, Refusal, WireError, read_cables};
+use wire::{CableList, Fault, WireError, read_cables};
 
-// A fault that is found when all cables are read stands at the end of the file.
-fn at_end(fault: Fault, end: usize) -> WireError
-    ensures { result ≡ «refused» (refusal fault end) }
-{
-    WireError::Refused(Refusal { fault, offset: end })
-}
-
-// Cables that were read, as a graph takes them.
-fn taken(heap: Global, cables: &[wire::Cable]) -> Result<Vec<Cable>, AllocError>
-    ensures { IfOk result (λ v. v.items ≡ map «taken_by» cables.now) }
-{
-    cables
-        .iter()
-        .map(|c| Cable { a: c.a, b: c.b })
-        .collect(heap)
-}
-
-// The links and the root of a list of cables, which is refused only where a switch cannot be reached.
+// The links and the root of a list of cables, which is refused only where a switch cannot be reached; that is found when
+// all cables are read, so it stands at the end of the file.
 fn cabling_of(heap: Global, list: &CableList, end: usize) -> Result<Cabling, WireError>
     requires { Proper (listed list.now) }
-    ensures { MatchResult result (λ g. Accepts list.now.switches (map «taken_by» list.now.cables.items) g) (λ e. Severed (graph_for (listed list.now)) end e) }
+    ensures { MatchResult result (λ g. Accepts list.now.switches list.now.cables.items g) (λ e. Severed (graph_for (listed list.now)) end e) }
 {
-    let switches = list.switches as usize;
-    let Ok(cables) = taken(heap, list.cables.as_slice()) else {
-        return Err(WireError::Memory);
-    };
-    match Cabling::new(heap, switches, cables.as_slice()) {
-        Ok(cabling) => Ok(cabling),
-        Err(cause) => match cause {
-            CableError::Lost { switch } => Err(at_end(Fault::Apart(switch as u8), end)),
-            CableError::Memory => Err(WireError::Memory),
+    Cabling::new(heap, list.switches as usize, list.cables.as_slice()).map_err(
+        |cause| match cause {
+            CableError::Lost { switch } => Fault::Apart(switch as u8).at(end).into(),
+            CableError::Memory => WireError::Memory,
             // the file was read, so its sizes and cables are right
-            CableError::Switches => unreachable(),
-            CableError::Cables => unreachable(),
-            CableError::NoSwitch { cable: _ } => unreachable(),
-            CableError::Loop { cable: _ } => unreachable(),
+            CableError::Switches
+            | CableError::Cables
+            | CableError::NoSwitch { .. }
+            | CableError::Loop { .. } => unreachable(),
         },
-    }
+    )
 }
 
 // The tree with the prescribed root.
@@ -64,11 +43,23 @@ fn grow(heap: Global, list: &CableList, end: usize) -> Result<Tree, WireError>
 {
     let cabling = cabling_of(heap, list, end)?;
     let root = cabling.root;
-    match Tree::new(heap, cabling, root) {
-        Ok(tree) => Ok(tree),
-        Err(TreeError::Memory) => Err(WireError::Memory),
-        Err(TreeError::NoRoot) => unreachable(),
-    }
+    Tree::new(heap, cabling, root).map_err(|cause| match cause {
+        TreeError::Memory => WireError::Memory,
+        // the root is one of the switches
+        TreeError::NoRoot => unreachable(),
+    })
+}
+
+// The layout of a tree's net.
+fn lay_out(heap: Global, tree: &Tree, room: u8) -> Result<Layout, WireError>
+    requires { (0 < room) × (room ≤ 32) }
+    ensures { MatchResult result (λ l. LaidOut tree.now room l) (λ e. e ≡ Memory) }
+{
+    lay(heap, tree, room).map_err(|cause| match cause {
+        LayoutError::Memory => WireError::Memory,
+        // the room was read, and the cables of a tree are right
+        LayoutError::Room | LayoutError::Cables(_) => unreachable(),
+    })
 }
 
 // The plan of a tree's net.
@@ -76,37 +67,22 @@ fn draw(heap: Global, tree: &Tree, room: u8) -> Result<Plan, WireError>
     requires { (0 < room) × (room ≤ 32) }
     ensures { MatchResult result (λ p. Drawn tree.now room p) (λ e. e ≡ Memory) }
 {
-    let layout = match lay(heap, tree, room) {
-        Ok(layout) => layout,
-        Err(LayoutError::Memory) => return Err(WireError::Memory),
-        Err(LayoutError::Room) => unreachable(),
-        Err(LayoutError::Cables(_)) => unreachable(),
-    };
-    match Plan::new(heap, layout) {
-        Ok(plan) => Ok(plan),
-        Err(cause) => match cause {
-            PlanError::Memory => Err(WireError::Memory),
-            // the layout of a tree has right sizes, and ranks rise
-            PlanError::Sizes => unreachable(),
-            PlanError::Falls {
-                channel: _,
-                place: _,
-            } => unreachable(),
-        },
-    }
+    let layout = lay_out(heap, tree, room)?;
+    Plan::new(heap, layout).map_err(|cause| match cause {
+        PlanError::Memory => WireError::Memory,
+        // the layout of a tree has right sizes, and ranks rise
+        PlanError::Sizes | PlanError::Falls { .. } => unreachable(),
+    })
 }
 
-// The bounds of a plan.
+// The bounds of a plan; one that is too long is found when all is read.
 fn bound(heap: Global, plan: Plan, end: usize) -> Result<Bounds, WireError>
     ensures { MatchResult result (λ b. (b.plan ≡ plan) × Within (net_of plan.layout)) (λ e. Late (net_of plan.layout) end e) }
 {
-    match Bounds::new(heap, plan) {
-        Ok(bounds) => Ok(bounds),
-        Err(cause) => match cause {
-            WaitError::TooLong => Err(at_end(Fault::TooLong, end)),
-            WaitError::Memory => Err(WireError::Memory),
-        },
-    }
+    Bounds::new(heap, plan).map_err(|cause| match cause {
+        WaitError::TooLong => Fault::TooLong.at(end).into(),
+        WaitError::Memory => WireError::Memory,
+    })
 }
 
 impl Hall {

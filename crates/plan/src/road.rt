@@ -1,5 +1,5 @@
-ghost use Rattle.std.specs.Prelude.{◌≡◌, ◌+◌, ◌&&◌, ltb, is_some, IfSome, IfOk, if◌then◌else◌, Some, None, nat_lt};
-ghost use Rattle.machine.specs.Waits.{wait as waitOf};
+ghost use Rattle.std.specs.Prelude.{◌≡◌, ◌+◌, ◌&&◌, is_some, IfSome, IfOk, if◌then◌else◌, Some, None, nat_lt};
+ghost use Rattle.machine.specs.Waits.{wait};
 ghost use Rattle.net.specs.Layout.{net_of};
 ghost use Rattle.waits.specs.Laws.{Road};
 
@@ -33,8 +33,7 @@ impl Hall {
     {
         let layout = &self.bounds.plan.layout;
         if door < layout.doors && place < layout.places {
-            let road = road_from(heap, &self.bounds.plan, layout.links + door, place)?;
-            Ok(Some(road))
+            Ok(Some(road_from(heap, &self.bounds.plan, layout.links + door, place)?))
         } else {
             Ok(None)
         }
@@ -42,7 +41,7 @@ impl Hall {
 
     // The wait from a door to a place with nothing before, if there are such.
     pub fn wait(&self, door: usize, place: usize) -> Option<u64>
-        ensures { result ≡ (if ltb door self.now.bounds.plan.layout.doors && nat_lt place self.now.bounds.plan.layout.places then Some (waitOf (net_of self.now.bounds.plan.layout) 0 (self.now.bounds.plan.layout.links + door) place) else None) }
+        ensures { result ≡ (if nat_lt door self.now.bounds.plan.layout.doors && nat_lt place self.now.bounds.plan.layout.places then Some (wait (net_of self.now.bounds.plan.layout) 0 (self.now.bounds.plan.layout.links + door) place) else None) }
     {
         let layout = &self.bounds.plan.layout;
         if door < layout.doors {

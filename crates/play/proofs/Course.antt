@@ -1,5 +1,5 @@
 -- Where the things of a script lead. Assumes nothing.
-use Rattle.std.proofs.Common.{◌≡◌, ℕ, ◌+◌, ◌<◌, ◌≤◌, leb, ◌⊎◌, List, [], ◌∷◌, ◌++◌, length, get_or, drop, replicate, Some, None, Ok, Option, sym, refl, ap, ◌∙◌, subst, inl, inr, ⊎_elim, arith}
+use Rattle.std.proofs.Common.{◌≡◌, ℕ, ◌+◌, ◌<◌, ◌≤◌, leb, ◌⊎◌, Bool, true, List, [], ◌∷◌, ◌++◌, length, get_or, drop, replicate, Some, None, Ok, Option, sym, refl, ap, ◌∙◌, subst, inl, inr, ⊎_elim, arith}
 use mathlib.Core.Path.{fun_ext}
 use mathlib.Core.List.Memᴰ
 use mathlib.Core.List.{Memᴰ}
@@ -21,9 +21,8 @@ use Rattle.plan.specs.Halls.{hall_net, read_hall}
 use Rattle.plan.specs.Built.{Lays, Serving}
 use Rattle.plan.specs.declared.hall.Hall.{Hall}
 use Rattle.net.specs.Layout.{net_of}
-use Rattle.round.specs.Running.{net_in, state_in}
-use Rattle.round.specs.declared.running.Running.{Running}
-use Rattle.play.specs.Standing.{standing}
+use Rattle.play.specs.declared.game.Game.{Game}
+use Rattle.play.specs.Standing.{Takes, net_of_game, position_of}
 use Rattle.play.specs.Kept.{Course, Honest}
 use Rattle.play.proofs.Entered.{came_known}
 use Rattle.play.proofs.Rounds.{one_round}
@@ -142,25 +141,26 @@ all_zero xs n e = fun_ext (λ d. ap (λ (ys : List ℕ). get_or ys d 0) e ∙ go
     go d (inr l) = let k : length {A = ℕ} (replicate n 0) ≡ n = length-replicate n 0 in get_or_past (replicate n 0) d 0 (omega arith)
 
 -- the first facts of a play
-pub play_starts : (cs bs : List ℕ) (r : Running) (fs : List ℕ) (h : Hall) (z : Net) → Lays cs h → net_of h.bounds.plan.layout ≡ z → net_in r ≡ z → standing r fs ≡ begin z →
-    ((state_in r).round ≤ 0) × Course cs bs (net_in r) 0 (standing r fs)
-play_starts cs bs r fs h z (l, q, b) e n s =
-    let k : (state_in r).round ≡ 0 = ap (λ (g : Position). g.state.round) s in
+pub play_starts : (cs bs : List ℕ) (g : Game) (h : Hall) (z : Net) → Lays cs h → net_of h.bounds.plan.layout ≡ z → net_of_game g ≡ z → position_of g ≡ begin z →
+    ((position_of g).state.round ≤ 0) × Course cs bs (net_of_game g) 0 (position_of g)
+play_starts cs bs g h z (l, q, b) e n s =
+    let k : (position_of g).state.round ≡ 0 = ap (λ (x : Position). x.state.round) s in
     let c : z ≡ hall_net l = sym e ∙ b.net in (
       omega arith,
-      subst (λ (y : Net). Course cs bs y 0 (standing r fs)) (sym n)
-          (subst (λ (g : Position). Course cs bs z 0 g) (sym s) (course_starts cs bs l z q c (subst (λ (y : Net). Serving y) (sym c) b.serves))),
+      subst (λ (y : Net). Course cs bs y 0 (position_of g)) (sym n)
+          (subst (λ (x : Position). Course cs bs z 0 x) (sym s) (course_starts cs bs l z q c (subst (λ (y : Net). Serving y) (sym c) b.serves))),
     )
 
 -- and those after a thing
-pub play_on : (cs bs : List ℕ) (r r' : Running) (fs fs' : List ℕ) (i j : ℕ) (t : Thing) → i < length bs → i < j → thing_read i (drop i bs) ≡ Ok (t, j) →
-    fault_of (net_in r) (standing r fs) t ≡ None → standing r' fs' ≡ play_thing (net_in r) t (standing r fs) → net_in r' ≡ net_in r → (state_in r).round ≤ i →
-    ∥ Course cs bs (net_in r) i (standing r fs) ∥₁ → ((state_in r').round ≤ j) × ∥ Course cs bs (net_in r') j (standing r' fs') ∥₁
-play_on cs bs r r' fs fs' i j t l o q f s n k c =
-    let e : (state_in r').round ≡ (play_thing (net_in r) t (standing r fs)).state.round = ap (λ (g : Position). g.state.round) s in
-    let m = counts_one (net_in r) t (standing r fs) in (
+pub play_on : (cs bs : List ℕ) (g h : Game) (i j : ℕ) (t : Thing) → i < length bs → i < j → thing_read i (drop i bs) ≡ Ok (t, j) →
+    fault_of (net_of_game g) (position_of g) t ≡ None → (done : Bool) → true ≡ done → Takes t g done h → (position_of g).state.round ≤ i →
+    ∥ Course cs bs (net_of_game g) i (position_of g) ∥₁ → ((position_of h).state.round ≤ j) × ∥ Course cs bs (net_of_game h) j (position_of h) ∥₁
+play_on cs bs g h i j t l o q f done d u k c =
+    let w = subst (λ (x : Bool). Takes t g x h) (sym d) u in
+    let e : (position_of h).state.round ≡ (play_thing (net_of_game g) t (position_of g)).state.round = ap (λ (x : Position). x.state.round) w.after in
+    let m = counts_one (net_of_game g) t (position_of g) in (
       omega arith,
-      ∥∥₁_map c (λ w.
-          subst (λ (y : Net). Course cs bs y j (standing r' fs')) (sym n)
-          (subst (λ (g : Position). Course cs bs (net_in r) j g) (sym s) (course_on cs bs (net_in r) i j t (standing r fs) l q f w))),
+      ∥∥₁_map c (λ v.
+          subst (λ (y : Net). Course cs bs y j (position_of h)) (sym w.net)
+          (subst (λ (x : Position). Course cs bs (net_of_game g) j x) (sym w.after) (course_on cs bs (net_of_game g) i j t (position_of g) l q f v))),
     )

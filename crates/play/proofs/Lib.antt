@@ -1,3 +1,4 @@
 pub mod Rounds
 pub mod Entered
 pub mod Course
+pub mod Mapped

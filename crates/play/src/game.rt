@@ -7,6 +7,7 @@ use round::Running;
 #[derive(Drop)]
 pub struct Game {
     pub(crate) running: Running,
+    // beside the fabric's doors and not in them: a fabric knows no order of names
     pub(crate) fresh: Vec<u64>,
     ghost doors: { vec_len fresh ≡ (net_in running).doors },
 }

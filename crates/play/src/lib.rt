@@ -8,5 +8,7 @@ mod game;
 mod moves;
 mod play;
 mod steps;
+mod stop;
 
 pub use play::Play;
+pub use stop::Stop;

@@ -1,7 +1,6 @@
 ghost use Rattle.std.specs.Prelude.{◌≤◌, length};
 ghost use Rattle.play.specs.Kept.{Course};
-ghost use Rattle.play.specs.Standing.{standing};
-ghost use Rattle.round.specs.Running.{net_in, state_in};
+ghost use Rattle.play.specs.Standing.{net_of_game, position_of};
 
 use crate::game::Game;
 
@@ -12,6 +11,6 @@ pub struct Play<'a> {
     pub(crate) script: &'a [u8],
     pub(crate) at: usize,
     pub(crate) game: Game,
-    ghost counted: { (state_in game.running).round ≤ at },
-    ghost past: { ∥ Course cables.now script.now (net_in game.running) at (standing game.running game.fresh.items) ∥₁ },
+    ghost counted: { (position_of game).state.round ≤ at },
+    ghost past: { ∥ Course cables.now script.now (net_of_game game) at (position_of game) ∥₁ },
 }

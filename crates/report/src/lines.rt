@@ -5,7 +5,7 @@ use std::fmt;
 use wire::{Fault, Refusal};
 
 // The file in which a fault was found.
-#[derive(Clone, Copy)]
+#[derive(Clone, Copy, Debug, PartialEq, Eq)]
 pub enum Source {
     Cables,
     Script,
@@ -25,12 +25,13 @@ impl fmt::Display for Source {
 }
 
 // A refusal as it is told: `refused <number> at byte <offset> of <file>: <cause>`.
-#[derive(Clone, Copy)]
+#[derive(Clone, Copy, Debug, PartialEq, Eq)]
 pub struct Notice {
     pub refusal: Refusal,
     pub source: Source,
 }
 
+// The words for a fault. They stand here, with all else that is printed: wire knows bytes and numbers only.
 #[derive(Clone, Copy)]
 struct Cause(Fault);
 

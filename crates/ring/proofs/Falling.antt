@@ -1,11 +1,11 @@
 -- Walking down the distances gives the way back that is first in order. Assumes nothing.
-use Rattle.std.proofs.Common.{◌≡◌, ℕ, ◌+◌, ◌-◌, ◌<◌, ◌≤◌, List, [], ◌∷◌, ◌++◌, length, get_or, sym, ap, ◌∙◌, subst, inl, inr, ⊎_elim, append_assoc, arith}
+use Rattle.std.proofs.Common.{◌≡◌, ℕ, ◌+◌, ◌-◌, ◌<◌, ◌≤◌, List, [], ◌∷◌, ◌++◌, Option, Some, None, MatchOption, length, get_or, sym, ap, ◌∙◌, subst, inl, inr, ⊎_elim, append_assoc, arith}
 use Rattle.std.specs.List.{AllByRecursion}
 use Rattle.std.proofs.ByRecursion.{All-weaker}
 use Rattle.std.proofs.lemmas.Bool.{cases_lt}
 use Rattle.ring.specs.Ring.{Along, NotAfter}
 use Rattle.ring.specs.Layers.{Back, Near}
-use Rattle.ring.specs.Down.{NextOn, Lowest, LowestRing}
+use Rattle.ring.specs.Down.{GoesOn, NextOn, Lowest, LowestRing}
 use Rattle.ring.proofs.Marks.{more_back, back_first, back_last, back_at}
 
 module _ (H : ℕ → ℕ → Type 0) (c k : ℕ) (A : List ℕ) (n : Near H c k A) where
@@ -45,12 +45,12 @@ module _ (H : ℕ → ℕ → Type 0) (c k : ℕ) (A : List ℕ) (n : Near H c k
 
   pub lowest_more : (x e : ℕ) (es : List ℕ) → get_or A x 0 ≤ k → NextOn H c A x e → Lowest H c A e es → Lowest H c A x (e ∷ es)
   lowest_more x e es lk o l =
-      let r = o.nearer in
+      let r = o.goes.nearer in
       let s = l.size in
       let b = n.some x (omega arith) in
       let falls : AllByRecursion (λ d. get_or A d 0 < get_or A x 0) (e ∷ es) = (omega arith, All-weaker (λ (d : ℕ). get_or A d 0 < get_or A e 0) (λ (d : ℕ). get_or A d 0 < get_or A x 0) (λ d h. omega arith) es l.falls) in
       record {
-        along = (o.hands, l.along);
+        along = (o.goes.hands, l.along);
         size = omega arith;
         from = b.from;
         high = (o.from, l.high);
@@ -65,7 +65,7 @@ module _ (H : ℕ → ℕ → Type 0) (c k : ℕ) (A : List ℕ) (n : Near H c k
       first : c ≤ x → (ds : List ℕ) → Along H x ds c → AllByRecursion (λ f. c ≤ f) ds → length ds ≡ length (e ∷ es) → NotAfter (e ∷ es) ds
       first f [] a h z = absurd (omega arith)
       first f (d ∷ ds) a h z =
-          let r = o.nearer in
+          let r = o.goes.nearer in
           let s = l.size in
           let t : length ds ≡ length es = omega arith in
           let w : Back H c d (get_or A e 0) = record { over = ds; along = a.1; size = omega arith; from = h.0; high = h.1 } in
@@ -83,3 +83,26 @@ module _ (H : ℕ → ℕ → Type 0) (c k : ℕ) (A : List ℕ) (n : Near H c k
   pub walk_last : (x : ℕ) (us ws : List ℕ) → ws ≡ us ++ (x ∷ []) → get_or A x 0 ≡ 1 →
       ((es : List ℕ) → Lowest H c A x es → LowestRing H c A (us ++ (x ∷ es))) → LowestRing H c A ws
   walk_last x us ws q z w = subst (λ (xs : List ℕ). LowestRing H c A xs) (sym q) (w [] (lowest_last x z))
+
+  -- what is nearer has a number
+  goes_on : (x e : ℕ) → 1 < get_or A x 0 → H x e → get_or A e 0 + 1 ≡ get_or A x 0 → GoesOn H A x e
+  goes_on x e g w q = record { hands = w; some = omega arith; nearer = q }
+
+  -- a search over all channels finds the next, or there is none since this one is the last
+  pub next_found : (n : ℕ) → ((x y : ℕ) → H x y → y < n) → (x : ℕ) → 0 < get_or A x 0 → get_or A x 0 ≤ k → (r : Option ℕ) →
+      MatchOption r ((e : ℕ) → c ≤ e → e < n → GoesOn H A x e → ⊥) (λ e. (c ≤ e) × (e < n) × GoesOn H A x e × ((d : ℕ) → c ≤ d → d < e → GoesOn H A x d → ⊥)) →
+      MatchOption r (get_or A x 0 ≡ 1) (λ e. NextOn H c A x e)
+  next_found n inside x h l None m = ⊎_elim
+      (λ (g : 1 < get_or A x 0). let s = some_nearer x g l in absurd (m s.0 s.2 (inside x s.0 s.1) (goes_on x s.0 g s.1 s.3)))
+      (λ (g : get_or A x 0 ≤ 1). omega arith)
+      (cases_lt 1 (get_or A x 0))
+  next_found n inside x h l (Some e) m =
+      let o = m.2 in
+      record {
+        goes = o;
+        from = m.0;
+        lowest = λ d w f q. ⊎_elim
+            (λ (g : d < e). let s = o.some in let z = o.nearer in absurd (m.3 d f g (goes_on x d (omega arith) w q)))
+            (λ (g : e ≤ d). g)
+            (cases_lt d e);
+      }

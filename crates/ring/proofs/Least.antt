@@ -1,19 +1,17 @@
 -- The search over all lowest members finds the smallest ring, or that there is none. Assumes nothing.
-use Rattle.std.proofs.Common.{◌≡◌, ℕ, ◌+◌, ◌<◌, ◌≤◌, ◌⊎◌, List, [], ◌∷◌, length, get_or, sym, refl, ap, ◌∙◌, subst, inl, inr, ⊎_elim, arith}
+use Rattle.std.proofs.Common.{◌≡◌, ℕ, ◌+◌, ◌<◌, ◌≤◌, ◌⊎◌, Option, Some, None, List, [], ◌∷◌, length, get_or, sym, refl, ap, ◌∙◌, subst, inl, inr, ⊎_elim, arith}
 use Rattle.std.specs.List.{AllByRecursion}
 use Rattle.std.proofs.lemmas.Bool.{cases_eq, cases_lt, cases_order}
+use Rattle.ring.specs.declared.shortest.Best.{Best}
 use Rattle.ring.specs.Ring.{Along, Ring, NoRing, FromLowest, NotAfter, Smallest}
 use Rattle.ring.specs.Layers.{Back, Near}
 use Rattle.ring.specs.Down.{Lowest, LowestRing}
-use Rattle.ring.specs.Fewest.{Fewest}
+use Rattle.ring.specs.Fewest.{Fewest, FewestOf, members_of}
 use Rattle.ring.proofs.Along.{along_below}
 use Rattle.ring.proofs.Count.{few}
 use Rattle.ring.proofs.Turned.{turned}
 
 module _ (H : ℕ → ℕ → Type 0) (n : ℕ) where
-  pub none_yet : Fewest H n 0 0 (n + 1)
-  none_yet = record { some = omega arith; most = omega arith; least = λ m j h. absurd (omega arith); found = λ h. absurd (omega arith) }
-
   -- the ring of lowest member y is shorter
   pub takes : (y low members : ℕ) (A : List ℕ) → Near H y members A → 0 < get_or A y 0 → get_or A y 0 < members → Fewest H n y low members → Fewest H n (y + 1) y (get_or A y 0)
   takes y low members A a p l f =
@@ -48,6 +46,29 @@ module _ (H : ℕ → ℕ → Type 0) (n : ℕ) where
         found = λ h. let g = f.found h in record { within = (let w = g.within in omega arith); back = g.back; lower = g.lower };
       }
 
+  -- the same of what was found, if something was
+  found_so : (y : ℕ) (o : Option Best) → FewestOf H n y o → (low : ℕ) × Fewest H n y low (members_of n o)
+  found_so y None f = (0, record { some = omega arith; most = omega arith; least = λ m j h b. let g = f m j h b in omega arith; found = λ h. absurd (omega arith) })
+  found_so y (Some b) f = (b.low, f.1)
+
+  pub nothing_yet : FewestOf H n 0 None
+  nothing_yet m j h b = absurd (omega arith)
+
+  pub takes_best : (y most : ℕ) (o : Option Best) (A : List ℕ) (b : Best) → most ≡ members_of n o → FewestOf H n y o → Near H y most A → 0 < get_or A y 0 → get_or A y 0 < most → b.low ≡ y → b.members ≡ get_or A y 0 → FewestOf H n (y + 1) (Some b)
+  takes_best y most o A b q f a p l low members =
+      let w = found_so y o f in
+      let m = w.1.most in
+      let g : Fewest H n y w.0 most = subst (λ (i : ℕ). Fewest H n y w.0 i) (sym q) w.1 in
+      let t = takes y w.0 most A a p l g in
+      (omega arith, subst (λ (i : ℕ). Fewest H n (y + 1) i b.members) (sym low) (subst (λ (i : ℕ). Fewest H n (y + 1) y i) (sym members) t))
+
+  pub keeps_best : (y most : ℕ) (o : Option Best) (A : List ℕ) → most ≡ members_of n o → FewestOf H n y o → Near H y most A → (0 < get_or A y 0 → most ≤ get_or A y 0) → FewestOf H n (y + 1) o
+  keeps_best y most None A q f a l =
+      let w = found_so y None f in
+      let t = keeps y w.0 (n + 1) A (subst (λ (i : ℕ). Near H y i A) q a) (λ p. let g = l p in omega arith) w.1 in
+      λ m j h b. let g = t.least m j h b in omega arith
+  keeps_best y most (Some b) A q f a l = (f.0, keeps y b.low b.members A (subst (λ (i : ℕ). Near H y i A) q a) (λ p. let g = l p in omega arith) f.1)
+
   -- its number is that of its members
   pub members_are : (low members : ℕ) (A : List ℕ) → Near H low members A → members ≤ n → Fewest H n n low members → get_or A low 0 ≡ members
   members_are low members A a h f =
@@ -66,12 +87,15 @@ module _ (H : ℕ → ℕ → Type 0) (n : ℕ) where
         let t = turned H x es a in
         f.least t.0 (length es + 1) (back_below t.0 (length es + 1) t.1) t.1
 
-    pub no_ring : (low members : ℕ) → n < members → Fewest H n n low members → NoRing H
+    no_ring : (low members : ℕ) → n < members → Fewest H n n low members → NoRing H
     no_ring low members h f [] r = elim r [ ]
     no_ring low members h f (x ∷ es) r =
         let l : length (x ∷ es) ≤ n = few n (x ∷ es) r.1 (along_below H n inside x es x r.0) in
         let m = least_of low members f x es r.0 in
         omega arith
+
+    pub none_found : FewestOf H n n None → NoRing H
+    none_found f = let w = found_so n None f in no_ring w.0 (n + 1) (omega arith) w.1
 
     pub smallest_is : (low members : ℕ) (A : List ℕ) (cs : List ℕ) → members ≤ n → get_or A low 0 ≡ members → Fewest H n n low members → LowestRing H low A cs → Smallest H cs
     smallest_is low members A [] h q f r = elim r [ ]

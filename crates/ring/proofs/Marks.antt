@@ -1,5 +1,5 @@
 -- Layer by layer the numbers are the distances back: one mark, the marks at one channel, a whole layer. Assumes nothing.
-use Rattle.std.proofs.Common.{◌≡◌, ℕ, ◌+◌, ◌<◌, ◌≤◌, Bool, true, false, cond, ◌&&◌, eqb, ◌⊎◌, List, [], ◌∷◌, length, get_or, set, sym, refl, ap, ◌∙◌, subst, inl, inr, ⊎_elim, arith, length-set}
+use Rattle.std.proofs.Common.{◌≡◌, ℕ, zero, suc, ◌+◌, ◌<◌, ◌≤◌, Bool, true, false, cond, ◌&&◌, eqb, ◌⊎◌, List, [], ◌∷◌, length, get_or, set, sym, ap, ◌∙◌, subst, inl, inr, ⊎_elim, arith, length-set}
 use Rattle.std.specs.List.{AllByRecursion}
 use Rattle.std.proofs.lemmas.List.{get_or-set_same, get_or-set_other, set-get_or}
 use Rattle.std.proofs.lemmas.Bool.{cases_eq, cases_lt, cases_Bool, and_parts, and_cases, eqb-true, eqb-false, cond-true, cond-false, both_ways}
@@ -14,17 +14,11 @@ at_set A y v x h = ⊎_elim
     (cases_eq x y)
 
 module _ (H : ℕ → ℕ → Type 0) (c : ℕ) where
-  pub one_back : (x : ℕ) → c ≤ x → H x c → Back H c x 1
-  one_back x l h = record { over = []; along = h; size = refl; from = l; high = tt }
-
   -- one channel more in front
   pub more_back : (x e k : ℕ) → c ≤ x → H x e → Back H c e k → Back H c x (k + 1)
   more_back x e k l h b =
       let s = b.size in
       record { over = e ∷ b.over; along = (h, b.along); size = omega arith; from = l; high = (b.from, b.high) }
-
-  pub back_some : (x k : ℕ) → Back H c x k → 0 < k
-  back_some x k b = let s = b.size in omega arith
 
   -- the first step of a way back
   pub back_first : (x k : ℕ) → Back H c x (k + 1) → 0 < k → (e : ℕ) × H x e × Back H c e k
@@ -43,14 +37,6 @@ module _ (H : ℕ → ℕ → Type 0) (c : ℕ) where
 
   pub back_at : (x j k : ℕ) → j ≡ k → Back H c x j → Back H c x k
   back_at x j k q b = subst (λ (i : ℕ). Back H c x i) q b
-
-  pub none_near : (A : List ℕ) → ((x : ℕ) → get_or A x 0 ≡ 0) → Near H c 0 A
-  none_near A z =
-      record {
-        some = λ x h. let q = z x in absurd (omega arith);
-        most = λ x. let q = z x in omega arith;
-        least = λ x j b h. let s = b.size in absurd (omega arith);
-      }
 
   pub mark : (k : ℕ) (A : List ℕ) (y : ℕ) → y < length A → get_or A y 0 ≡ 0 → Back H c y (k + 1) → Near H c k A → Near H c k (set A y (k + 1))
   mark k A y h q b n =
@@ -77,9 +63,6 @@ module _ (H : ℕ → ℕ → Type 0) (c : ℕ) where
             (omega arith, omega arith))
             (at_set A y (k + 1) x h);
       }
-
-  pub spread_none : (k x : ℕ) (A : List ℕ) → Near H c k A → Spread H c k x c A A
-  spread_none k x A n = record { size = refl; near = n; only = λ z. inl refl; done = λ z l h w. absurd (omega arith) }
 
   -- y is looked at; b says whether it hands blocks to x
   pub spread_more : (k x y : ℕ) (old A : List ℕ) (b : Bool) (v : ℕ) → Source H c x (k + 1) → c ≤ y → y < length A → (b ≡ true → H y x) → (H y x → b ≡ true) → v ≡ cond (b && eqb (get_or A y 0) 0) (k + 1) (get_or A y 0) → Spread H c k x y old A → Spread H c k x (y + 1) old (set A y v)
@@ -134,9 +117,6 @@ module _ (H : ℕ → ℕ → Type 0) (c : ℕ) where
           } in
           let same : set A y v ≡ A = ap (λ (i : ℕ). set A y i) w ∙ set-get_or A y 0 in
           subst (λ (B : List ℕ). Spread H c k x (y + 1) old B) (sym same) r
-
-  pub layer_none : (k : ℕ) (A : List ℕ) → Near H c k A → Layer H c k c A
-  layer_none k A n = record { near = n; done = λ x z h l. absurd (omega arith) }
 
   -- a channel of another number is passed over
   pub layer_pass : (k y : ℕ) (A : List ℕ) → (get_or A y 0 ≡ k → ⊥) → Layer H c k y A → Layer H c k (y + 1) A
@@ -196,19 +176,46 @@ module _ (H : ℕ → ℕ → Type 0) (c : ℕ) where
           let r = near_by x f.0 w.from f.1 f.2 in
           (r.0, (let m = r.1 in omega arith))
 
-  -- the first layer
-  pub first_all : (n : ℕ) (old A : List ℕ) → ((z x : ℕ) → H z x → z < n) → Spread H c 0 c n old A → Near H c 1 A
-  first_all n old A b s =
-      record {
-        some = s.near.some;
-        most = λ x. let m = s.near.most x in omega arith;
-        least = λ x j w h.
-            let p = back_some x j w in
-            let q : j ≡ 1 = omega arith in
-            let g = back_last x (back_at x j 1 q w) in
-            let m = s.near.most x in
-            (s.done x w.from (b x c g) g, omega arith);
-      }
+  -- where no channel has number k, none has a higher one, and what is known up to k + 1 is known of every layer
+  module _ (k : ℕ) (A : List ℕ) (p : 0 < k) (n : Near H c (k + 1) A) (none : (x : ℕ) → get_or A x 0 ≡ k → ⊥) where
+    -- the next on the way back has a lower number than k, and so the one before has at most k
+    beside : (x e : ℕ) → c ≤ x → H x e → 0 < get_or A e 0 → get_or A e 0 ≤ k → get_or A x 0 ≤ k
+    beside x e f h s l =
+        let lt : get_or A e 0 < k = ⊎_elim (λ (g : get_or A e 0 < k). g) (λ (g : k ≤ get_or A e 0). absurd (none e (omega arith))) (cases_lt (get_or A e 0) k) in
+        let o = n.least x (get_or A e 0 + 1) (more_back x e (get_or A e 0) f h (n.some e s)) (omega arith) in
+        omega arith
 
-  pub first_source : Source H c c 1
-  first_source = λ z l h. one_back z l h
+    not_next : (x : ℕ) → get_or A x 0 ≤ k + 1 → get_or A x 0 ≤ k
+    not_next x l = ⊎_elim (λ (g : get_or A x 0 < k + 1). omega arith)
+        (λ (g : k + 1 ≤ get_or A x 0).
+        let q : get_or A x 0 ≡ k + 1 = omega arith in
+        let b = back_at x (get_or A x 0) (k + 1) q (n.some x (omega arith)) in
+        let f = back_first x k b p in
+        let o = n.least f.0 k f.2 (omega arith) in
+        beside x f.0 b.from f.1 o.0 o.1)
+        (cases_lt (get_or A x 0) (k + 1))
+
+    low : (x : ℕ) → get_or A x 0 ≤ k
+    low x = ⊎_elim (λ (g : get_or A x 0 < k + 2). not_next x (omega arith))
+        (λ (g : k + 2 ≤ get_or A x 0).
+        let m = n.most x in
+        let q : get_or A x 0 ≡ (k + 1) + 1 = omega arith in
+        let b = back_at x (get_or A x 0) ((k + 1) + 1) q (n.some x (omega arith)) in
+        let f = back_first x (k + 1) b (omega arith) in
+        let o = n.least f.0 (k + 1) f.2 (omega arith) in
+        beside x f.0 b.from f.1 o.0 (not_next f.0 o.1))
+        (cases_lt (get_or A x 0) (k + 2))
+
+    known : (j x : ℕ) → Back H c x j → (0 < get_or A x 0) × (get_or A x 0 ≤ j)
+    known zero x b = let s = b.size in absurd (omega arith)
+    known (suc i) x b = ⊎_elim (λ (g : suc i < k + 2). n.least x (suc i) b (omega arith)) (λ (g : k + 2 ≤ suc i). further (λ e w. known i e w) (omega arith) (back_first x i (back_at x (suc i) (i + 1) (omega arith) b) (omega arith))) (cases_lt (suc i) (k + 2))
+      where
+        further : ((e : ℕ) → Back H c e i → (0 < get_or A e 0) × (get_or A e 0 ≤ i)) → k + 1 ≤ i → (e : ℕ) × H x e × Back H c e i → (0 < get_or A x 0) × (get_or A x 0 ≤ suc i)
+        further r g f =
+            let o = r f.0 f.2 in
+            let l = low f.0 in
+            let s = n.least x (get_or A f.0 0 + 1) (more_back x f.0 (get_or A f.0 0) b.from f.1 (n.some f.0 o.0)) (omega arith) in
+            (s.0, omega arith)
+
+    pub no_more : (m : ℕ) → k + 1 ≤ m → Near H c m A
+    no_more m g = record { some = n.some; most = λ x. let l = low x in omega arith; least = λ x j b h. known j x b }

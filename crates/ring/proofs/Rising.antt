@@ -1,9 +1,9 @@
 -- Raising ranks where they do not rise: it ends, and what is left are the least ranks. Assumes nothing.
-use Rattle.std.proofs.Common.{◌≡◌, ℕ, zero, suc, ◌+◌, ◌*◌, ◌<◌, ◌≤◌, Bool, true, false, cond, leb, ◌⊎◌, List, [], ◌∷◌, length, get_or, set, sum, sym, refl, ap, ◌∙◌, subst, inl, inr, ⊎_elim, arith}
+use Rattle.std.proofs.Common.{◌≡◌, ℕ, zero, suc, ◌+◌, ◌*◌, ◌<◌, ◌≤◌, Bool, true, false, ◌||◌, cond, leb, ◌⊎◌, List, [], ◌∷◌, length, get_or, set, sum, sym, refl, ap, ◌∙◌, subst, inl, inr, ⊎_elim, arith}
 use Rattle.std.proofs.ByRecursion.{All-from_get_or, sum_by_le}
 use Rattle.std.proofs.lemmas.List.{get_or-set_same, get_or-set_other}
 use Rattle.std.proofs.lemmas.List.Sums.{sum_by-set}
-use Rattle.std.proofs.lemmas.Bool.{cases_eq, cases_Bool, cond-true, cond-false, leb-true, leb-false, both_ways}
+use Rattle.std.proofs.lemmas.Bool.{cases_eq, cases_Bool, cond-true, cond-false, leb-true, leb-false, or_parts, or_cases, both_ways}
 use Rattle.net.specs.declared.Entry.{Entry}
 use Rattle.ring.specs.Ring.{Along, Differ, Ring, NoRing}
 use Rattle.ring.specs.Table.{Hands}
@@ -52,12 +52,13 @@ module _ (H : ℕ → ℕ → Type 0) where
   pub lifted_none : (S : ℕ → ℕ → Type 0) (r : List ℕ) → Backed H r → ((c e : ℕ) → S c e → ⊥) → Lifted H S r r false
   lifted_none S r b z = record { backed = b; still = λ q. (refl, λ c e s. absurd (z c e s)); more = λ q. absurd (both_ways false refl q) }
 
-  pub lifted_then : (S S' U : ℕ → ℕ → Type 0) (old mid new : List ℕ) (a b t : Bool) → Lifted H S old mid a → Lifted H S' mid new b → ((c e : ℕ) → U c e → S c e ⊎ S' c e) → (t ≡ false → (a ≡ false) × (b ≡ false)) → (t ≡ true → (a ≡ true) ⊎ (b ≡ true)) → Lifted H U old new t
-  lifted_then S S' U old mid new a b t l k u none some =
+  -- some pairs and then others: one was raised if one of either was
+  pub lifted_then : (S S' U : ℕ → ℕ → Type 0) (old mid new : List ℕ) (a b t : Bool) → Lifted H S old mid a → Lifted H S' mid new b → ((c e : ℕ) → U c e → S c e ⊎ S' c e) → t ≡ (a || b) → Lifted H U old new t
+  lifted_then S S' U old mid new a b t l k u is =
       record {
         backed = k.backed;
         still = λ q.
-            let z = none q in
+            let z = or_parts a b (sym is ∙ q) in
             let f = l.still z.0 in
             let g = k.still z.1 in (
               g.0 ∙ f.0,
@@ -66,7 +67,7 @@ module _ (H : ℕ → ℕ → Type 0) where
                   (λ (s : S' c e). g.1 c e s)
                   (u c e v),
             );
-        more = λ q. ⊎_elim first second (some q);
+        more = λ q. ⊎_elim first second (or_cases a b (sym is ∙ q));
       }
     where
       first : a ≡ true → sum old < sum new

@@ -1,13 +1,18 @@
 -- Walking down the distances: the next channel, and the way back that is first in order. Assumes nothing.
-use Rattle.std.specs.Prelude.{◌≡◌, ℕ, ◌+◌, ◌<◌, ◌≤◌, List, [], ◌∷◌, length, slice_index, slice_index_or}
+use Rattle.std.specs.Prelude.{◌≡◌, ℕ, ◌+◌, ◌<◌, ◌≤◌, List, [], ◌∷◌, length, slice_index}
 use Rattle.std.specs.List.{AllByRecursion}
 use Rattle.ring.specs.Ring.{Along, Differ, NotAfter}
 
--- e is the lowest channel to which x hands blocks and that is one nearer
-pub record NextOn (H : ℕ → ℕ → Type 0) (c : ℕ) (away : List ℕ) (x e : ℕ) : Type 0 where
+-- x hands blocks to e, from which the way back is one shorter
+pub record GoesOn (H : ℕ → ℕ → Type 0) (away : List ℕ) (x e : ℕ) : Type 0 where
   pub hands : H x e
+  pub some : 0 < slice_index away e
+  pub nearer : slice_index away e + 1 ≡ slice_index away x
+
+-- e is the lowest channel that goes on from x
+pub record NextOn (H : ℕ → ℕ → Type 0) (c : ℕ) (away : List ℕ) (x e : ℕ) : Type 0 where
+  pub goes : GoesOn H away x e
   pub from : c ≤ e
-  pub nearer : slice_index_or away e 0 + 1 ≡ slice_index away x
   pub lowest : (d : ℕ) → H x d → c ≤ d → slice_index away d + 1 ≡ slice_index away x → e ≤ d
 
 -- From x over the list back to c by as many channels as its number says; the numbers fall, and no such way comes before it in order.

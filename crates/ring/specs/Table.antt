@@ -1,5 +1,5 @@
 -- A foreign table: its sizes, which of its channels hand blocks to which, and entries that name no channel. Assumes nothing.
-use Rattle.std.specs.Prelude.{◌≡◌, ℕ, ◌+◌, ◌*◌, ◌<◌, ◌≤◌, Bool, true, false, ◌⊎◌, List, length, nat_lt, slice_set}
+use Rattle.std.specs.Prelude.{◌≡◌, ℕ, ◌*◌, ◌<◌, ◌≤◌, Bool, true, false, ◌⊎◌, List, length, nat_lt, slice_index_or}
 use Rattle.net.specs.declared.Entry.{Entry}
 use Rattle.net.specs.declared.Entry.TheVariants.{Here, Link}
 use Rattle.net.specs.Layout.{entry_at}
@@ -14,6 +14,11 @@ pub record Sized (es : List Entry) (n m : ℕ) : Type 0 where
 -- Channel c hands blocks to e: for some place its entry says e.
 abbrev pub Hands : List Entry → ℕ → ℕ → ℕ → Type 0
 Hands es m c e = (p : ℕ) × (p < m) × (entry_at es m c p ≡ Link e)
+
+-- what the table says for channel c, place by place
+pub record IsRow (es : List Entry) (m c : ℕ) (row : List Entry) : Type 0 where
+  pub size : length row ≡ m
+  pub entry : (p : ℕ) → p < m → slice_index_or row p Here ≡ entry_at es m c p
 
 -- an entry says here, or names one of n channels
 abbrev pub names : ℕ → Entry → Bool
@@ -36,18 +41,7 @@ pub record FirstStray (es : List Entry) (n m c p : ℕ) : Type 0 where
   pub here : FirstInRow es n m c p
   pub earlier : (d q : ℕ) → d < c → names n (entry_at es m d q) ≡ true
 
--- the square with the mark for what one entry of channel c says
-abbrev pub marked_by : ℕ → ℕ → Entry → List Bool → List Bool
-marked_by n c Here rows = rows
-marked_by n c (Link e) rows = slice_set rows (e * n + c) true
-
 -- The square's marks are right, and none is missing for channels below c and for c at places below p.
 pub record Marked (es : List Entry) (n m c p : ℕ) (rows : List Bool) : Type 0 where
   pub only : (y x : ℕ) → Feeds rows n y x → Hands es m y x
   pub each : (y q x : ℕ) → (y < c) ⊎ ((y ≡ c) × (q < p)) → q < m → entry_at es m y q ≡ Link x → Feeds rows n y x
-
--- the square says just which channel hands blocks to which
-pub record Agrees (es : List Entry) (n m : ℕ) (rows : List Bool) : Type 0 where
-  pub size : length rows ≡ n * n
-  pub only : (y x : ℕ) → Feeds rows n y x → Hands es m y x
-  pub each : (y x : ℕ) → Hands es m y x → Feeds rows n y x

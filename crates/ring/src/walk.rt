@@ -1,48 +1,47 @@
-ghost use Rattle.std.specs.Prelude.{◌≡◌, ℕ, ◌*◌, ◌<◌, ◌≤◌, length, IfOk, slice_index};
-ghost use Rattle.ring.specs.Down.{LowestRing, NextOn};
-ghost use Rattle.ring.specs.Layers.{Feeds, Near};
+ghost use Rattle.std.specs.Prelude.{◌≡◌, ℕ, ◌<◌, ◌≤◌, ◌↔◌, IfOk, IsTrue, MatchOption, slice_index};
+ghost use Rattle.ring.specs.Down.{GoesOn, LowestRing, NextOn};
+ghost use Rattle.ring.specs.Graph.{FeedsIn};
+ghost use Rattle.ring.specs.Layers.{Near};
 
-use crate::layers::feeds;
+use crate::distances::Distances;
 use std::alloc::{AllocError, Global};
 
-// The lowest channel to which x hands blocks and from which the way back to c is one shorter.
-fn next_on(rows: &[bool], n: usize, c: usize, away: &[u16], x: usize) -> usize
-    requires square { length rows.now ≡ n * n }
-    requires sized { length away.now ≡ n }
-    requires inside { (n ≤ 320) × ((c < n) × (x < n)) }
-    requires far { (1 < slice_index away.now x) × (slice_index away.now x ≤ slice_index away.now c) }
-    requires near { Near (Feeds rows.now n) c (slice_index away.now c) away.now }
-    ensures { NextOn (Feeds rows.now n) c away.now x result }
-{
-    let nearer = away[x] - 1;
-    for e in c..n {
-        if away[e] == nearer && feeds(rows, n, x, e) {
-            return e;
+impl Distances<'_> {
+    // The ring through `to` of as many channels as its number says that is first in order.
+    pub(crate) fn ring(&self, heap: Global) -> Result<Vec<u16>, AllocError>
+        requires some { 0 < slice_index self.now.numbers.items self.now.to }
+        requires near { Near (FeedsIn self.now.graph.now) self.now.to (slice_index self.now.numbers.items self.now.to) self.now.numbers.items }
+        ensures { IfOk result (λ v. LowestRing (FeedsIn self.now.graph.now) self.now.to self.now.numbers.items v.items) }
+    {
+        let mut ring = vec![in heap; self.to as u16]?;
+        let mut at = self.to;
+        while let Some(next) = self.next(at) {
+            ring.push(next as u16)?;
+            at = next;
         }
+        Ok(ring)
     }
-    x
-}
 
-// The members of the ring through c of as many channels as its number says that is first in order.
-pub(crate) fn walk(
-    heap: Global,
-    rows: &[bool],
-    n: usize,
-    c: usize,
-    away: &[u16],
-) -> Result<Vec<u16>, AllocError>
-    requires square { length rows.now ≡ n * n }
-    requires sized { length away.now ≡ n }
-    requires inside { (n ≤ 320) × ((c < n) × (0 < slice_index away.now c)) }
-    requires near { Near (Feeds rows.now n) c (slice_index away.now c) away.now }
-    ensures { IfOk result (λ v. LowestRing (Feeds rows.now n) c away.now v.items) }
-{
-    let mut ring = Vec::new(heap);
-    let mut at = c;
-    while 1 < away[at] {
-        ring.push(at as u16)?;
-        at = next_on(rows, n, c, away, at);
+    // The lowest channel that goes on from x; none from the last, since no channel has number 0.
+    fn next(&self, x: usize) -> Option<usize>
+        requires inside { x < self.now.graph.now.channels }
+        requires some { 0 < slice_index self.now.numbers.items x }
+        requires most { slice_index self.now.numbers.items x ≤ slice_index self.now.numbers.items self.now.to }
+        requires near { Near (FeedsIn self.now.graph.now) self.now.to (slice_index self.now.numbers.items self.now.to) self.now.numbers.items }
+        ensures { MatchOption result
+            (slice_index self.now.numbers.items x ≡ 1)
+            (λ e. NextOn (FeedsIn self.now.graph.now) self.now.to self.now.numbers.items x e) }
+    {
+        (self.to..self.graph.channels).find(|&e| self.goes_on(x, e))
     }
-    ring.push(at as u16)?;
-    Ok(ring)
+
+    // Whether x hands blocks to e, from which the way back is one shorter.
+    fn goes_on(&self, x: usize, e: usize) -> bool
+        requires x_inside { x < self.now.graph.now.channels }
+        requires e_inside { e < self.now.graph.now.channels }
+        requires some { 0 < slice_index self.now.numbers.items x }
+        ensures { IsTrue result ↔ GoesOn (FeedsIn self.now.graph.now) self.now.numbers.items x e }
+    {
+        self.of(e) == Some(self.numbers[x] - 1) && self.graph.feeds(x, e)
+    }
 }

@@ -1,6 +1,6 @@
 -- A look round in two halves, from the turn to the last channel and then from 0 up to the turn. Assumes nothing.
-use Rattle.std.proofs.Common.{◌≡◌, ℕ, zero, suc, ◌+◌, ◌-◌, ◌<◌, ◌≤◌, true, false, cond, eqb, ltb, List, Some, None, refl, ap, ◌∙◌, ⊎_elim, arith}
-use Rattle.std.proofs.lemmas.Bool.{cond-true, cond-false, lt-ltb, le-ltb, eq-eqb, ne_eqb, cases_eq}
+use Rattle.std.proofs.Common.{◌≡◌, ℕ, zero, suc, ◌+◌, ◌-◌, ◌<◌, ◌≤◌, true, false, ltb, List, [], ◌∷◌, get_or, Some, None, refl, ap, ◌∙◌, arith}
+use Rattle.std.proofs.lemmas.Bool.{cond-true, cond-false, lt-ltb, le-ltb}
 use Rattle.net.specs.declared.Block.{Block}
 use Rattle.net.specs.Net.{Net, channels}
 use Rattle.machine.specs.Round.{look, wants, following}
@@ -54,18 +54,12 @@ module _ (z : Net) (e : ℕ) (q : ℕ → List Block) where
   unfolding look
   no_half t n s l f g = round_to_0 t n s l f ∙ past t 0 0 t t (omega arith) (omega arith) (omega arith) g
 
-  pub in_half : (t n c half from to : ℕ) → n ≡ channels z → t < n → from ≡ cond (eqb half 0) t 0 → to ≡ cond (eqb half 0) n t → from ≤ c → c < to →
-      Quiet z e q from c → (0 < half → Quiet z e q t n) → wants z e c (q c) ≡ true → look z e q t n ≡ Some c
-  in_half t n c half from to s l a b h u f g w = ⊎_elim one two (cases_eq half 0)
-    where
-      one : half ≡ 0 → look z e q t n ≡ Some c
-      one y =
-          let x : from ≡ t = a ∙ cond-true (eqb half 0) t 0 (eq-eqb half 0 y) in
-          let v : to ≡ n = b ∙ cond-true (eqb half 0) n t (eq-eqb half 0 y) in
-          first_half t n c s (omega arith) (omega arith) (λ i m k. f i (omega arith) k) w
+  -- c stands in half i
+  abbrev half : ℕ → ℕ → ℕ → ℕ × ℕ
+  half t n i = get_or ((t, n) ∷ (0, t) ∷ []) i (0, 0)
 
-      two : (half ≡ 0 → ⊥) → look z e q t n ≡ Some c
-      two y =
-          let x : from ≡ 0 = a ∙ cond-false (eqb half 0) t 0 (ne_eqb half 0 y) in
-          let v : to ≡ t = b ∙ cond-false (eqb half 0) n t (ne_eqb half 0 y) in
-          second_half t n c s l (omega arith) (g (omega arith)) (λ i m k. f i (omega arith) k) w
+  pub in_half : (t n c i : ℕ) → n ≡ channels z → t < n → (half t n i).0 ≤ c → c < (half t n i).1 →
+      Quiet z e q (half t n i).0 c → (0 < i → Quiet z e q t (channels z)) → wants z e c (q c) ≡ true → look z e q t (channels z) ≡ Some c
+  in_half t n c zero s l h u f g w = first_half t (channels z) c refl h (omega arith) f w
+  in_half t n c (suc zero) s l h u f g w = second_half t (channels z) c refl (omega arith) u (g (omega arith)) f w
+  in_half t n c (suc (suc i)) s l h u f g w = absurd (omega arith)

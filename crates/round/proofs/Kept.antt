@@ -1,25 +1,20 @@
 -- What the scripts that came to a state say of it. Assumes nothing.
-use Rattle.std.proofs.Common.{◌≡◌, ℕ, ◌+◌, ◌<◌, Bool, true, false, cond, List, [], ◌∷◌, ◌++◌, length, sym, refl, ap, ◌∙◌, subst, ⊎_elim, arith}
+use Rattle.std.proofs.Common.{◌≡◌, ◌<◌, Bool, true, false, cond, List, [], ◌∷◌, ◌++◌, sym, refl, ap, ◌∙◌, subst, ⊎_elim}
 use mathlib.Core.List.Memᴰ
-use mathlib.Core.Logic.{∥∥₁_elim, ∥∥₁_map}
-use native.Mathlib.Bridge.{le_prop}
-use native.Mathlib.Nat.{ℕ_set}
+use mathlib.Core.Logic.{∥∥₁_map}
 use Rattle.net.specs.declared.Block.{Block}
-use Rattle.net.specs.Net.{Net, Good, channels}
+use Rattle.net.specs.declared.plan.Plan.{Plan}
+use Rattle.net.specs.Layout.{net_of}
+use Rattle.net.specs.Net.{Net}
 use Rattle.machine.specs.Promise.{Past, Kept}
 use Rattle.machine.specs.Round.{State, Event, Enter, Round, Orderly, start, play, step}
-use Rattle.machine.proofs.Counts.{count_right, turned}
 use Rattle.machine.proofs.Whole.{whole}
 use Rattle.net.proofs.Outside.{plan_good}
-use Rattle.round.specs.Fabric.{Fitted, Steady}
-use Rattle.round.specs.declared.error.Refusal.{Refusal}
-use Rattle.round.specs.declared.error.Refusal.TheVariants.{NoDoor, NoPlace, DoorFull, Memory, NoMoreRounds}
-use Rattle.round.specs.Refused.{Bars, BlockRefuses}
-use Rattle.round.specs.Running.{net_in, state_in}
-use Rattle.round.specs.declared.running.Running.{Running}
+use Rattle.round.specs.Fabric.{net_at, state_of}
+use Rattle.round.specs.declared.fabric.Fabric.{Fabric}
 
-pub kept : (z : Net) → Good z → (s : State) → ∥ Past z s ∥₁ → Kept z s
-kept z g s p = (p, λ vs o e. whole z g vs o)
+pub kept : (f : Fabric) → ∥ Past (net_at f) (state_of f) ∥₁ → Kept (net_at f) (state_of f)
+kept f p = (p, λ vs o e. whole (net_at f) (plan_good f.plan) vs o)
 
 pub at_start : (z : Net) (s : State) → s ≡ start z → Past z s
 unfolding play
@@ -30,41 +25,25 @@ unfolding play
 one_more z [] v s = refl
 one_more z (w ∷ vs) v s = one_more z vs v (step z w s)
 
-orderly_more : (z : Net) (vs : List Event) (v : Event) → Orderly z vs → ((b : Block) → v ≡ Enter b → (b.door < z.doors) × (b.place < z.places)) → Orderly z (vs ++ (v ∷ []))
+-- what lets in a block does so at a door and for a place that are there
+abbrev pub EntersWell : Net → Event → Type 0
+EntersWell z v = (b : Block) → v ≡ Enter b → (b.door < z.doors) × (b.place < z.places)
+
+orderly_more : (z : Net) (vs : List Event) (v : Event) → Orderly z vs → EntersWell z v → Orderly z (vs ++ (v ∷ []))
 orderly_more z vs v o h b m = ⊎_elim (λ i. o b i) (λ i. h b (sym (Memᴰ.eq_of_singleton i))) (Memᴰ.append_cases vs m)
 
-pub more : (z : Net) (v : Event) (s t : State) → ((b : Block) → v ≡ Enter b → (b.door < z.doors) × (b.place < z.places)) → t ≡ step z v s → ∥ Past z s ∥₁ → ∥ Past z t ∥₁
-more z v s t h e p = ∥∥₁_map p (λ w. (w.0 ++ (v ∷ []), orderly_more z w.0 v w.1 h, e ∙ ap (step z v) w.2 ∙ sym (one_more z w.0 v (start z))))
+more : (z : Net) (v : Event) (s t : State) (r : Bool) → EntersWell z v → t ≡ cond r (step z v s) s → Past z s → Past z t
+more z v s t true h e w = (w.0 ++ (v ∷ []), orderly_more z w.0 v w.1 h, e ∙ ap (step z v) w.2 ∙ sym (one_more z w.0 v (start z)))
+more z v s t false h e w = (w.0, w.1, e ∙ w.2)
 
--- the same where it may have been refused
-pub perhaps : (z : Net) (v : Event) (s t : State) (r : Bool) → ((b : Block) → v ≡ Enter b → (b.door < z.doors) × (b.place < z.places)) →
-    t ≡ cond r (step z v s) s → ∥ Past z s ∥₁ → ∥ Past z t ∥₁
-perhaps z v s t true h e p = more z v s t h e p
-perhaps z v s t false h e p = ∥∥₁_map p (λ w. (w.0, w.1, e ∙ w.2))
+-- an event happened, or was refused
+pub past_on : (f g : Fabric) (v : Event) (r : Bool) → EntersWell (net_at f) v → g.plan ≡ f.plan → state_of g ≡ cond r (step (net_at f) v (state_of f)) (state_of f) →
+    ∥ Past (net_at f) (state_of f) ∥₁ → ∥ Past (net_at g) (state_of g) ∥₁
+past_on f g v r h q e p =
+    subst (λ (k : Plan). ∥ Past (net_of k.layout) (state_of g) ∥₁) (sym q) (∥∥₁_map p (λ w. more (net_at f) v (state_of f) (state_of g) r h e w))
 
-pub round_enters_none : (z : Net) (b : Block) → Round ≡ Enter b → (b.door < z.doors) × (b.place < z.places)
-round_enters_none z b e = let x : ◌≡◌ {A = ℕ} 0 1 = cc in absurd (omega arith)
+pub round_enters_none : (z : Net) → EntersWell z Round
+round_enters_none z b e = cc
 
-pub this_enters : (z : Net) (a : Block) → a.door < z.doors → a.place < z.places → (b : Block) → Enter a ≡ Enter b → (b.door < z.doors) × (b.place < z.places)
+pub this_enters : (z : Net) (a : Block) → a.door < z.doors → a.place < z.places → EntersWell z (Enter a)
 this_enters z a d p b e = let x : a ≡ b = cc in subst (λ (k : Block). (k.door < z.doors) × (k.place < z.places)) x (d, p)
-
-pub settled : (g : Running) → Kept (net_in g) (state_in g)
-settled g = kept (net_in g) (plan_good g.plan) (state_in g) g.past
-
-pub fitted_in : (g : Running) → Fitted g.plan.layout g.fabric
-fitted_in g = record { links = g.links; doors = g.doors; credits = g.credits; turns = g.turns; sizes = g.sizes }
-
--- credits are right and turns are channels, since a script came to the state
-pub steady_past : (z : Net) → Good z → (s : State) → ∥ Past z s ∥₁ → Steady z s
-steady_past z g s p = record {
-  counted = λ e l. ∥∥₁_elim p (ℕ_set _ _) (λ w. ap (λ (t : State). t.free e + length (t.queue e)) w.2 ∙ count_right z g w.0 w.1 e l);
-  turned = λ e l. ∥∥₁_elim p le_prop (λ w. subst (λ (t : State). t.turn e < channels z) (sym w.2) (turned z g w.0 w.1 e l));
-}
-
--- whatever bars a block refuses it
-pub barred : (z : Net) (s : State) (b : Block) (e : Refusal) → Bars z s b e → BlockRefuses z s b e
-barred z s b NoDoor h = h
-barred z s b NoPlace h = h
-barred z s b DoorFull h = h
-barred z s b Memory h = absurd h
-barred z s b NoMoreRounds h = h

@@ -1,18 +1,36 @@
--- A link of the layout is in each list that a fitted fabric keeps for links. Assumes nothing.
-use Rattle.std.proofs.Common.{ℕ, ◌<◌, map, length, vec_items, arith}
-use Rattle.std.proofs.lemmas.List.{length-map}
-use Rattle.net.specs.declared.layout.Layout.{Layout}
-use Rattle.store.specs.Credit.{credit_free}
-use Rattle.store.specs.Store.{items}
-use Rattle.round.specs.declared.fabric.Fabric.{Fabric}
-use Rattle.round.specs.Fabric.{Fitted, frees}
+-- The credit of each link is of the size that the plan gives to stores: what is counted as free and what stands in the store make up both.
+use Rattle.std.proofs.Common.{◌≡◌, ℕ, zero, suc, ◌+◌, ◌<◌, List, [], ◌∷◌, map, length, get_or, vec_items, ap, ◌∙◌, arith}
+use mathlib.Core.Logic.{∥∥₁_elim}
+use native.Mathlib.Nat.{ℕ_set}
+use Rattle.std.proofs.lemmas.List.{get_or_append_left, length-map}
+use Rattle.net.proofs.Outside.{plan_good}
+use Rattle.machine.proofs.Counts.{count_right}
+use Rattle.machine.specs.Round.{State}
+use Rattle.store.specs.Credit.{credit_all}
+use Rattle.round.specs.Fabric.{waiting}
+use Rattle.round.specs.Link.{queue_of, free_of}
+use Rattle.round.specs.Running.{net_in, state_in}
+use Rattle.round.specs.declared.link.Link.{Link}
+use Rattle.round.specs.declared.running.Running.{Running}
 
-module _ (l : Layout) (f : Fabric) (t : Fitted l f) (e : ℕ) (h : e < l.links) where
-  pub in_links : e < length (map items (vec_items f.links))
-  in_links = let a = t.links in let b = f.links.ok.0 in let d = length-map (vec_items f.links) items in omega arith
+abbrev pub size_of : Link → ℕ
+size_of l = credit_all l.credit
 
-  pub in_frees : e < length (frees f)
-  in_frees = let a = t.credits in let b = f.credits.ok.0 in let d = length-map (vec_items f.credits) credit_free in omega arith
+pub count_in : (g : Running) (e : ℕ) → e < (net_in g).links → (state_in g).free e + length ((state_in g).queue e) ≡ (net_in g).store
+count_in g e h = ∥∥₁_elim g.past (ℕ_set _ _) (λ w. ap (λ (t : State). t.free e + length (t.queue e)) w.2 ∙ count_right (net_in g) (plan_good g.fabric.plan) w.0 w.1 e h)
 
-  pub in_turns : e < length (vec_items f.turns)
-  in_turns = let a = t.turns in let b = f.turns.ok.0 in omega arith
+made_up : (ls : List Link) (e : ℕ) → e < length ls → get_or (map free_of ls) e 0 + length (get_or (map queue_of ls) e []) ≡ get_or (map size_of ls) e 0
+made_up [] e h = absurd (omega arith)
+made_up (l ∷ ls) zero h = l.right
+made_up (l ∷ ls) (suc e) h = made_up ls e (omega arith)
+
+pub size_in : (g : Running) (e : ℕ) → e < (net_in g).links → get_or (map size_of (vec_items g.fabric.links)) e 0 ≡ (net_in g).store
+size_in g e h =
+    let f = g.fabric in
+    let k = f.links.ok.0 in
+    let l = vec_items f.links in
+    let i : e < length l = omega arith in
+    let c = count_in g e h in
+    let a = made_up l e i in
+    let b = ap length (get_or_append_left (map queue_of l) (waiting f) [] e (simp length-map i)) in
+    omega arith

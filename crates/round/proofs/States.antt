@@ -1,130 +1,121 @@
 -- A state whose parts stand in lists: what writes to the lists do to it. Assumes nothing.
-use Rattle.std.proofs.Common.{◌≡◌, ℕ, pred, ◌+◌, ◌-◌, ◌<◌, ◌≤◌, Bool, true, false, cond, ltb, ◌⊎◌, List, [], ◌∷◌, ◌++◌, length, get_or, set, replicate, Some, None, Option, sym, refl, ap, ◌∙◌, inl, inr, arith}
-use mathlib.Core.Path.{fun_ext}
-use Rattle.std.proofs.lemmas.List.{set-get_or, length-append, append-nil, get_or_past, get_or-replicate, length-replicate, replicate-append-replicate}
-use Rattle.std.proofs.lemmas.Bool.{cases_lt, cond-true, cond-false, lt-ltb, le-ltb}
+use Rattle.std.proofs.Common.{◌≡◌, ℕ, pred, ◌+◌, ◌<◌, ltb, List, [], ◌∷◌, ◌++◌, map, length, get_or, set, drop, Some, None, Option, MatchOption, option_to_list, sym, refl, ap, ◌∙◌, arith}
+use Rattle.std.proofs.lemmas.List.{get_or_append_left, length-append, length-map, map-set, set-append_left}
+use Rattle.std.proofs.lemmas.Bool.{cond-true, cond-false, lt-ltb, le-ltb}
 use Rattle.net.specs.declared.Block.{Block}
 use Rattle.net.specs.declared.Came.{Came}
 use Rattle.net.specs.Heads.{head_of, tail_of}
 use Rattle.net.specs.Net.{Net}
-use Rattle.machine.specs.Round.{State, at, enter, following, leave, start}
+use Rattle.machine.specs.Round.{State, at, enter, following}
 use Rattle.round.specs.Fabric.{listed, leaves, arrives}
-use Rattle.round.proofs.Places.{at_set, front_write, behind_write}
+use Rattle.round.specs.Link.{queue_of, free_of, turn_of}
+use Rattle.round.specs.declared.link.Link.{Link}
+use Rattle.round.proofs.Places.{at_set, at_here, behind_set, behind_read, mapped_read}
 
-abbrev made : (ℕ → List Block) → (ℕ → ℕ) → (ℕ → ℕ) → List Came → ℕ → State
+abbrev pub made : (ℕ → List Block) → (ℕ → ℕ) → (ℕ → ℕ) → List Came → ℕ → State
 made q f t c r = record { queue = q; free = f; turn = t; came = c; round = r }
 
-module _ (z : Net) (c : ℕ) (qs : List (List Block)) (fs ts : List ℕ) (cs : List Came) (n : ℕ) (within : c < length qs) where
-  queue_left : (λ k. get_or (set qs c (tail_of (get_or qs c []))) k []) ≡ at c (tail_of (get_or qs c [])) (λ k. get_or qs k [])
-  queue_left = at_set qs c (tail_of (get_or qs c [])) [] within
+pub same_made : {q p : ℕ → List Block} {f g t u : ℕ → ℕ} (cs : List Came) (n : ℕ) → q ≡ p → f ≡ g → t ≡ u → made q f t cs n ≡ made p g u cs n
+same_made cs n a b c = cc
 
-  pub leave_link : c < length fs → c < z.links →
-      listed (set qs c (tail_of (get_or qs c []))) (set fs c (get_or fs c 0 + 1)) ts cs n ≡ leave z c (listed qs fs ts cs n)
-  leave_link h l =
-      ap (λ (q : ℕ → List Block). made q (λ k. get_or (set fs c (get_or fs c 0 + 1)) k 0) (λ k. get_or ts k 0) cs n) queue_left ∙
-      ap (λ (f : ℕ → ℕ). made (at c (tail_of (get_or qs c [])) (λ k. get_or qs k [])) f (λ k. get_or ts k 0) cs n)
-      (at_set fs c (get_or fs c 0 + 1) 0 h ∙
-      sym (cond-true (ltb c z.links) (at c (get_or fs c 0 + 1) (λ k. get_or fs k 0)) (λ k. get_or fs k 0) (lt-ltb c z.links l)))
+-- where there is no first block, nothing stands behind it
+none_behind : (q : List Block) → None ≡ head_of q → tail_of q ≡ q
+none_behind [] h = refl
+none_behind (b ∷ bs) h = cc
 
-  pub leave_door : z.links ≤ c →
-      listed (set qs c (tail_of (get_or qs c []))) fs ts cs n ≡ leave z c (listed qs fs ts cs n)
-  leave_door l =
-      ap (λ (q : ℕ → List Block). made q (λ k. get_or fs k 0) (λ k. get_or ts k 0) cs n) queue_left ∙
-      ap (λ (f : ℕ → ℕ). made (at c (tail_of (get_or qs c [])) (λ k. get_or qs k [])) f (λ k. get_or ts k 0) cs n)
-      (sym (cond-false (ltb c z.links) (at c (get_or fs c 0 + 1) (λ k. get_or fs k 0)) (λ k. get_or fs k 0) (le-ltb c z.links l)))
+module _ (ls : List Link) (ds : List (List Block)) (cs : List Came) (n : ℕ) (e : ℕ) (x : Link) (h : e < length ls) (is : x ≡ get_or ls e x) where
+  abbrev before : State
+  before = listed ls ds cs n
 
--- where there is no first block, taking it changes nothing
-pub none_taken : (c : ℕ) (qs : List (List Block)) → head_of (get_or qs c []) ≡ None → set qs c (tail_of (get_or qs c [])) ≡ qs
-none_taken c qs h = ap (λ (q : List Block). set qs c q) (go (get_or qs c []) h) ∙ set-get_or qs c []
-  where
-    go : (q : List Block) → head_of q ≡ None → tail_of q ≡ q
-    go [] h = refl
-    go (b ∷ bs) h = absurd (let x : ◌≡◌ {A = ℕ} 0 1 = cc in omega arith)
+  pub queue_read : before.queue e ≡ queue_of x
+  queue_read = get_or_append_left (map queue_of ls) ds [] e (simp length-map h) ∙ mapped_read queue_of ls e x [] h is
 
--- the same of queues in two parts, of which one was changed
-module _ (z : Net) (c : ℕ) (ls bs : List (List Block)) (fs ts : List ℕ) (cs : List Came) (n : ℕ) where
-  pub link_left : (us : List (List Block)) (gs : List ℕ) → us ≡ set ls c (tail_of (get_or ls c [])) → gs ≡ set fs c (get_or fs c 0 + 1) →
-      c < length ls → c < length fs → c < z.links → listed (us ++ bs) gs ts cs n ≡ leave z c (listed (ls ++ bs) fs ts cs n)
-  link_left us gs u g h f l =
-      ap (λ (w : List (List Block)). listed w gs ts cs n) (ap (λ (w : List (List Block)). w ++ bs) u ∙ front_write ls bs c [] tail_of h) ∙
-      ap (λ (w : List ℕ). listed (set (ls ++ bs) c (tail_of (get_or (ls ++ bs) c []))) w ts cs n) g ∙
-      leave_link z c (ls ++ bs) fs ts cs n (let k = length-append ls bs in omega arith) f l
+  pub free_read : before.free e ≡ free_of x
+  free_read = mapped_read free_of ls e x 0 h is
 
-  pub door_left : (r : Option Block) (us : List (List Block)) → us ≡ set bs (c - z.links) (tail_of (get_or bs (c - z.links) [])) →
-      r ≡ head_of (get_or bs (c - z.links) []) → z.links ≡ length ls → z.links ≤ c → c - z.links < length bs →
-      listed (ls ++ us) fs ts cs n ≡ leaves z c r (listed (ls ++ bs) fs ts cs n)
-  door_left None us u r q h l =
-      ap (λ (w : List (List Block)). listed (ls ++ w) fs ts cs n) (u ∙ none_taken (c - z.links) bs (sym r))
-  door_left (Some b) us u r q h l =
-      ap (λ (w : List (List Block)). listed w fs ts cs n) (ap (λ (w : List (List Block)). ls ++ w) u ∙ behind_write ls bs c z.links [] tail_of q h) ∙
-      leave_door z c (ls ++ bs) fs ts cs n (let k = length-append ls bs in omega arith) h
+  pub turn_read : before.turn e ≡ turn_of x
+  turn_read = mapped_read turn_of ls e x 0 h is
 
--- where there is a first block, something is held
-pub some_held : (q : List Block) (b : Block) → head_of q ≡ Some b → 0 < length q
-some_held [] b h = absurd (let x : ◌≡◌ {A = ℕ} 0 1 = cc in omega arith)
-some_held (a ∷ bs) b h = omega arith
+  -- the link is written
+  link_set : (l : Link) → listed (set ls e l) ds cs n ≡ made (at e (queue_of l) before.queue) (at e (free_of l) before.free) (at e (turn_of l) before.turn) cs n
+  link_set l =
+      let hq : e < length (map queue_of ls) = simp length-map h in
+      let hf : e < length (map free_of ls) = simp length-map h in
+      let ht : e < length (map turn_of ls) = simp length-map h in
+      same_made cs n
+      (ap {B = ℕ → List Block} (λ (v : List (List Block)) (a : ℕ). get_or v a [])
+      (ap (λ (v : List (List Block)). v ++ ds) (map-set queue_of ls e l) ∙ sym (set-append_left (map queue_of ls) ds e (queue_of l) hq)) ∙
+      at_set (map queue_of ls ++ ds) e (queue_of l) [] (simp length-append (omega arith)))
+      (ap {B = ℕ → ℕ} (λ (v : List ℕ) (a : ℕ). get_or v a 0) (map-set free_of ls e l) ∙ at_set (map free_of ls) e (free_of l) 0 hf)
+      (ap {B = ℕ → ℕ} (λ (v : List ℕ) (a : ℕ). get_or v a 0) (map-set turn_of ls e l) ∙ at_set (map turn_of ls) e (turn_of l) 0 ht)
 
--- a block comes into the store of link e, in a row of queues in two parts
-pub come_in : (z : Net) (e c : ℕ) (b : Block) (ls bs : List (List Block)) (fs ts : List ℕ) (cs : List Came) (n : ℕ)
-    (us : List (List Block)) (gs ws : List ℕ) →
-    us ≡ set ls e (get_or ls e [] ++ (b ∷ [])) → gs ≡ set fs e (pred (get_or fs e 0)) → ws ≡ set ts e (following z c) →
-    e < length ls → e < length fs → e < length ts →
-    listed (us ++ bs) gs ws cs n ≡ arrives z e c b (listed (ls ++ bs) fs ts cs n)
-come_in z e c b ls bs fs ts cs n us gs ws u g w h i j =
-    let k = length-append ls bs in
-    let add : List Block → List Block = λ q. q ++ (b ∷ []) in
-    let q : (λ a. get_or (us ++ bs) a []) ≡ at e (add (get_or (ls ++ bs) e [])) (λ a. get_or (ls ++ bs) a []) =
-    ap {B = ℕ → List Block} (λ (v : List (List Block)) (a : ℕ). get_or v a []) (ap (λ (v : List (List Block)). v ++ bs) u ∙ front_write ls bs e [] add h) ∙
-    at_set (ls ++ bs) e (add (get_or (ls ++ bs) e [])) [] (omega arith) in
-    let f : (λ a. get_or gs a 0) ≡ at e (pred (get_or fs e 0)) (λ a. get_or fs a 0) =
-    ap {B = ℕ → ℕ} (λ (v : List ℕ) (a : ℕ). get_or v a 0) g ∙ at_set fs e (pred (get_or fs e 0)) 0 i in
-    let t : (λ a. get_or ws a 0) ≡ at e (following z c) (λ a. get_or ts a 0) =
-    ap {B = ℕ → ℕ} (λ (v : List ℕ) (a : ℕ). get_or v a 0) w ∙ at_set ts e (following z c) 0 j in
-    ap (λ (x : ℕ → List Block). made x (λ a. get_or gs a 0) (λ a. get_or ws a 0) cs n) q ∙
-    ap (λ (x : ℕ → ℕ). made (at e (add (get_or (ls ++ bs) e [])) (λ a. get_or (ls ++ bs) a [])) x (λ a. get_or ws a 0) cs n) f ∙
-    ap (λ (x : ℕ → ℕ). made (at e (add (get_or (ls ++ bs) e [])) (λ a. get_or (ls ++ bs) a [])) (at e (pred (get_or fs e 0)) (λ a. get_or fs a 0)) x cs n) t
+  -- its first block was taken, if there was one
+  pub link_left : (l : Link) (z : Net) (r : Option Block) → e < z.links → r ≡ head_of (queue_of x) → queue_of l ≡ tail_of (queue_of x) →
+      MatchOption r (free_of l ≡ free_of x) (λ _. free_of l ≡ free_of x + 1) → turn_of l ≡ turn_of x →
+      listed (set ls e l) ds cs n ≡ leaves z e r before
+  link_left l z None k r q f t =
+      link_set l ∙
+      same_made cs n (at_here e (queue_of l) before.queue (q ∙ none_behind (queue_of x) r ∙ sym queue_read))
+      (at_here e (free_of l) before.free (f ∙ sym free_read)) (at_here e (turn_of l) before.turn (t ∙ sym turn_read))
+  link_left l z (Some b) k r q f t =
+      link_set l ∙
+      same_made cs n (ap (λ (w : List Block). at e w before.queue) (q ∙ ap tail_of (sym queue_read)))
+      (ap (λ (w : ℕ). at e w before.free) (f ∙ ap (λ (w : ℕ). w + 1) (sym free_read)) ∙
+      sym (cond-true (ltb e z.links) (at e (before.free e + 1) before.free) before.free (lt-ltb e z.links k)))
+      (at_here e (turn_of l) before.turn (t ∙ sym turn_read))
 
--- a block is put behind what waits at its door, or refused
-pub let_in : (z : Net) (b : Block) (ls bs : List (List Block)) (fs ts : List ℕ) (cs : List Came) (n : ℕ) (r : Bool) (us : List (List Block)) →
-    us ≡ cond r (set bs b.door (get_or bs b.door [] ++ (b ∷ []))) bs → z.links ≡ length ls → b.door < length bs →
-    listed (ls ++ us) fs ts cs n ≡ cond r (enter z b (listed (ls ++ bs) fs ts cs n)) (listed (ls ++ bs) fs ts cs n)
-let_in z b ls bs fs ts cs n false us u q h = ap (λ (w : List (List Block)). listed (ls ++ w) fs ts cs n) u
-let_in z b ls bs fs ts cs n true us u q h =
-    let i = z.links + b.door in
-    let k = length-append ls bs in
-    let add : List Block → List Block = λ w. w ++ (b ∷ []) in
-    let d : i - z.links ≡ b.door = omega arith in
-    ap (λ (w : List (List Block)). listed (ls ++ w) fs ts cs n) (u ∙ ap (λ (j : ℕ). set bs j (add (get_or bs j []))) (sym d)) ∙
-    ap (λ (w : List (List Block)). listed w fs ts cs n) (behind_write ls bs i z.links [] add q (omega arith)) ∙
-    ap (λ (w : ℕ → List Block). made w (λ a. get_or fs a 0) (λ a. get_or ts a 0) cs n) (at_set (ls ++ bs) i (add (get_or (ls ++ bs) i [])) [] (omega arith))
+  -- a block came into its store
+  pub come_in : (l : Link) (z : Net) (c : ℕ) (b : Block) → queue_of l ≡ queue_of x ++ (b ∷ []) → free_of l ≡ pred (free_of x) → turn_of l ≡ following z c →
+      listed (set ls e l) ds cs n ≡ arrives z e c b before
+  come_in l z c b q f t =
+      link_set l ∙
+      same_made cs n (ap (λ (w : List Block). at e w before.queue) (q ∙ ap (λ (w : List Block). w ++ (b ∷ [])) (sym queue_read)))
+      (ap (λ (w : ℕ). at e w before.free) (f ∙ ap pred (sym free_read)))
+      (ap (λ (w : ℕ). at e w before.turn) t)
 
--- the lists of a new fabric
-nothing_there : {A : Type 0} (m n : ℕ) (a : A) → ◌≡◌ {A = ℕ → A} (λ c. get_or (replicate m a ++ replicate n a) c a) (λ c. a)
-nothing_there m n a = fun_ext (λ c. ap (λ us. get_or us c a) (replicate-append-replicate m n a) ∙ go c (cases_lt c (m + n)))
-  where
-    go : (c : ℕ) → (c < m + n) ⊎ (m + n ≤ c) → get_or (replicate (m + n) a) c a ≡ a
-    go c (inl h) = get_or-replicate (m + n) c a a h
-    go c (inr h) = get_or_past (replicate (m + n) a) c a (let l = length-replicate (m + n) a in omega arith)
+-- what taking a first block from a queue says, in the machine's words
+popped : (r : Option Block) (o m : List Block) → o ≡ option_to_list r ++ m → m ≡ drop 1 o → (r ≡ head_of o) × (m ≡ tail_of o)
+popped None [] m p d = (refl, d)
+popped None (b ∷ bs) m p d = let k = ap length p in let i = ap length d in absurd (omega arith)
+popped (Some b) [] m p d = cc
+popped (Some b) (a ∷ bs) m p d = (cc, d)
 
-up_to : (n m : ℕ) → ◌≡◌ {A = ℕ → ℕ} (λ c. get_or (replicate n m) c 0) (λ c. cond (ltb c n) m 0)
-up_to n m = fun_ext (λ c. go c (cases_lt c n))
-  where
-    go : (c : ℕ) → (c < n) ⊎ (n ≤ c) → get_or (replicate n m) c 0 ≡ cond (ltb c n) m 0
-    go c (inl h) = get_or-replicate n c m 0 h ∙ sym (cond-true (ltb c n) m 0 (lt-ltb c n h))
-    go c (inr h) = get_or_past (replicate n m) c 0 (let l = length-replicate n m in omega arith) ∙ sym (cond-false (ltb c n) m 0 (le-ltb c n h))
+-- the same of what waits at a door
+module _ (z : Net) (ls : List Link) (ds : List (List Block)) (cs : List Came) (n : ℕ) (c j : ℕ) (m : z.links ≡ length ls) (h : c ≡ z.links + j) (l : j < length ds) where
+  abbrev standing : State
+  standing = listed ls ds cs n
 
-zeros : (n : ℕ) → ◌≡◌ {A = ℕ → ℕ} (λ c. get_or (replicate n 0) c 0) (λ c. 0)
-zeros n = ap {B = ℕ → ℕ} (λ (us : List ℕ) (c : ℕ). get_or us c 0) (sym (append-nil (replicate n 0))) ∙ nothing_there n 0 0
+  front : z.links ≡ length (map queue_of ls)
+  front = m ∙ sym (length-map ls queue_of)
 
-pub new_state : (z : Net) (ls bs : List (List Block)) (fs ts : List ℕ) (cs : List Came) →
-    ls ≡ replicate z.links [] → bs ≡ replicate z.doors [] → fs ≡ replicate z.links z.store → ts ≡ replicate z.links 0 → cs ≡ [] →
-    listed (ls ++ bs) fs ts cs 0 ≡ start z
-new_state z ls bs fs ts cs l b f t c =
-    ap (λ (w : List (List Block)). listed (w ++ bs) fs ts cs 0) l ∙
-    ap (λ (w : List (List Block)). listed (replicate z.links [] ++ w) fs ts cs 0) b ∙
-    ap (λ (w : List ℕ). listed (replicate z.links [] ++ replicate z.doors []) w ts cs 0) f ∙
-    ap (λ (w : List ℕ). listed (replicate z.links [] ++ replicate z.doors []) (replicate z.links z.store) w cs 0) t ∙
-    ap (λ (w : List Came). listed (replicate z.links [] ++ replicate z.doors []) (replicate z.links z.store) (replicate z.links 0) w 0) c ∙
-    ap (λ (q : ℕ → List Block). made q (λ a. get_or (replicate z.links z.store) a 0) (λ a. get_or (replicate z.links 0) a 0) [] 0) (nothing_there z.links z.doors []) ∙
-    ap (λ (q : ℕ → ℕ). made (λ a. []) q (λ a. get_or (replicate z.links 0) a 0) [] 0) (up_to z.links z.store) ∙
-    ap (λ (q : ℕ → ℕ). made (λ a. []) (λ a. cond (ltb a z.links) z.store 0) q [] 0) (zeros z.links)
+  pub door_read : standing.queue c ≡ get_or ds j []
+  door_read = behind_read (map queue_of ls) ds c z.links j [] front h
+
+  door_set : (q : List Block) → listed ls (set ds j q) cs n ≡ made (at c q standing.queue) standing.free standing.turn cs n
+  door_set q = same_made cs n (behind_set (map queue_of ls) ds c z.links j q [] front h l) refl refl
+
+  -- its first block was taken, if there was one
+  pub door_left : (r : Option Block) (o q : List Block) → o ≡ get_or ds j [] → o ≡ option_to_list r ++ q → q ≡ drop 1 o →
+      listed ls (set ds j q) cs n ≡ leaves z c r standing
+  door_left r o q i p d =
+      let here : standing.queue c ≡ o = door_read ∙ sym i in
+      let k = popped r o q p d in
+      door_set q ∙ go r (k.0 ∙ ap head_of (sym here)) (k.1 ∙ ap tail_of (sym here))
+    where
+      go : (r : Option Block) → r ≡ head_of (standing.queue c) → q ≡ tail_of (standing.queue c) →
+          made (at c q standing.queue) standing.free standing.turn cs n ≡ leaves z c r standing
+      go None a b = same_made cs n (at_here c q standing.queue (b ∙ none_behind (standing.queue c) a)) refl refl
+      go (Some x) a b =
+          same_made cs n (ap (λ (w : List Block). at c w standing.queue) b)
+          (sym (cond-false (ltb c z.links) (at c (standing.free c + 1) standing.free) standing.free (le-ltb c z.links (omega arith)))) refl
+
+  -- a block was put behind the others
+  pub door_more : (b : Block) (o q : List Block) → o ≡ get_or ds j [] → q ≡ o ++ (b ∷ []) → j ≡ b.door →
+      listed ls (set ds j q) cs n ≡ enter z b standing
+  door_more b o q i p d =
+      let here : standing.queue c ≡ o = door_read ∙ sym i in
+      let w : c ≡ z.links + b.door = omega arith in
+      door_set q ∙
+      same_made cs n
+      (ap (λ (w : List Block). at c w standing.queue) (p ∙ ap (λ (w : List Block). w ++ (b ∷ [])) (sym here)) ∙
+      ap (λ (i : ℕ). at i (standing.queue i ++ (b ∷ [])) standing.queue) w) refl refl

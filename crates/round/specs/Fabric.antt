@@ -1,47 +1,35 @@
--- The machine's state that a fabric stands for, and what a fabric for a layout has to keep. Assumes nothing.
-use Rattle.std.specs.Prelude.{◌≡◌, ℕ, pred, ◌+◌, ◌<◌, List, [], ◌∷◌, ◌++◌, map, length, Some, None, vec_items, vec_len, Option, slice_index, slice_index_or}
+-- The net that a fabric runs, and the machine's state that it stands for. Assumes nothing.
+use Rattle.std.specs.Prelude.{ℕ, pred, List, [], ◌∷◌, ◌++◌, map, Some, None, vec_items, Option, slice_index, slice_index_or}
 use Rattle.std.specs.VecDeque.{deque_items}
 use Rattle.net.specs.declared.Block.{Block}
 use Rattle.net.specs.declared.Came.{Came}
-use Rattle.net.specs.Net.{Net, channels}
-use Rattle.store.specs.Store.{items}
-use Rattle.store.specs.Credit.{credit_free, credit_all}
+use Rattle.net.specs.Layout.{net_of}
+use Rattle.net.specs.Net.{Net}
 use Rattle.machine.specs.Round.{State, at, following, leave}
-use Rattle.net.specs.declared.layout.Layout.{Layout}
+use Rattle.round.specs.Link.{queue_of, free_of, turn_of}
+use Rattle.round.specs.declared.link.Link.{Link}
 use Rattle.round.specs.declared.fabric.Fabric.{Fabric}
 
--- what stands in each channel: the links' stores, then the doors
-abbrev pub queues : Fabric → List (List Block)
-queues f = map items (vec_items f.links) ++ map deque_items (vec_items f.doors)
+-- the net of its plan
+abbrev pub net_at : Fabric → Net
+net_at f = net_of f.plan.layout
 
-abbrev pub frees : Fabric → List ℕ
-frees f = map credit_free (vec_items f.credits)
+-- what waits at its doors
+abbrev pub waiting : Fabric → List (List Block)
+waiting f = map deque_items (vec_items f.doors)
 
--- the state whose parts stand in lists
-abbrev pub listed : List (List Block) → List ℕ → List ℕ → List Came → ℕ → State
-listed qs fs ts cs n = record {
-  queue = λ c. slice_index_or qs c [];
-  free = λ c. slice_index fs c;
-  turn = λ c. slice_index ts c;
+-- the state whose parts stand in lists: in each channel the links' stores, then the doors
+abbrev pub listed : List Link → List (List Block) → List Came → ℕ → State
+listed ls ds cs n = record {
+  queue = λ c. slice_index_or (map queue_of ls ++ ds) c [];
+  free = λ e. slice_index (map free_of ls) e;
+  turn = λ e. slice_index (map turn_of ls) e;
   came = cs;
   round = n;
 }
 
 abbrev pub state_of : Fabric → State
-state_of f = listed (queues f) (frees f) (vec_items f.turns) (vec_items f.came) f.rounds
-
--- a fabric has a store, a credit and a turn for each link of a layout, and a queue for each door; each credit is of a store's size
-pub record Fitted (l : Layout) (f : Fabric) : Type 0 where
-  pub links : vec_len f.links ≡ l.links
-  pub doors : vec_len f.doors ≡ l.doors
-  pub credits : vec_len f.credits ≡ l.links
-  pub turns : vec_len f.turns ≡ l.links
-  pub sizes : (e : ℕ) → e < l.links → slice_index (map credit_all (vec_items f.credits)) e ≡ l.room
-
--- credits are right, and turns are channels
-pub record Steady (z : Net) (s : State) : Type 0 where
-  pub counted : (e : ℕ) → e < z.links → s.free e + length (s.queue e) ≡ z.store
-  pub turned : (e : ℕ) → 0 < channels z → s.turn e < channels z
+state_of f = listed (vec_items f.links) (waiting f) (vec_items f.came) f.rounds
 
 -- what is left when a first block was taken from channel c, if there was one
 abbrev pub leaves : Net → ℕ → Option Block → State → State

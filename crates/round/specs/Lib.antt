@@ -1,3 +1,4 @@
 pub mod Fabric
+pub mod Link
 pub mod Refused
 pub mod Running

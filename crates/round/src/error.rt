@@ -1,3 +1,8 @@
+ghost use Rattle.round.specs.declared.error.Refusal.TheVariants.{Memory};
+ghost use Rattle.std.specs.Prelude.{◌≡◌};
+
+use std::alloc::AllocError;
+
 // Why a call was refused; what is refused changes nothing.
 #[derive(Clone, Copy)]
 pub enum Refusal {
@@ -11,4 +16,12 @@ pub enum Refusal {
     Memory,
     // all numbers of rounds are used up
     NoMoreRounds,
+}
+
+impl From<AllocError> for Refusal {
+    ghost from_gives = { λ _ r. r ≡ Memory };
+
+    fn from(_e: AllocError) -> Refusal {
+        Refusal::Memory
+    }
 }

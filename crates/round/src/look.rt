@@ -1,32 +1,20 @@
-ghost use Rattle.std.specs.Prelude.{◌≡◌, ◌+◌, ◌<◌, [], get_or, if◌then◌else◌, nat_eq, slice_index, slice_index_or};
-ghost use Rattle.machine.specs.Round.{look as «look_spec», wants as «wants-spec»};
-ghost use Rattle.net.specs.Layout.{net_of};
-ghost use Rattle.round.specs.Fabric.{Fitted, queues};
+ghost use Rattle.std.specs.Prelude.{◌≡◌, ◌<◌};
+ghost use Rattle.machine.specs.Round.{look, wants};
+ghost use Rattle.net.specs.Net.{channels};
+ghost use Rattle.round.specs.Fabric.{net_at, state_of};
 
 use crate::fabric::Fabric;
-use net::{Entry, Plan};
-
-// The two halves of a look round: from the turn to the last channel, then from 0 up to the turn.
-fn half_from(half: u8, turn: usize, channels: usize) -> (usize, usize)
-    ensures from { result.0 ≡ (if nat_eq half 0 then turn else 0) }
-    ensures to { result.1 ≡ (if nat_eq half 0 then channels else turn) }
-{
-    if half == 0 {
-        (turn, channels)
-    } else {
-        (0, turn)
-    }
-}
+use net::Entry;
 
 impl Fabric {
     // The first block of channel c wants to go to link e.
-    fn wants(&self, plan: &Plan, e: usize, c: usize) -> bool
-        ensures { result ≡ «wants-spec» (net_of plan.now.layout) e c (slice_index_or (queues self.now) c []) }
+    fn wants(&self, e: usize, c: usize) -> bool
+        ensures { result ≡ wants (net_at self.now) e c ((state_of self.now).queue c) }
     {
         let Some(block) = self.first(c) else {
             return false;
         };
-        match plan.entry(c, block.place as usize) {
+        match self.plan.entry(c, block.place as usize) {
             Entry::Here => false,
             Entry::Link(to) => e == to as usize,
         }
@@ -34,19 +22,15 @@ impl Fabric {
 
     // The first channel whose first block wants to go to link e, from the link's turn on and beginning again at 0 after the
     // last.
-    pub(crate) fn look(&self, plan: &Plan, e: usize) -> Option<usize>
-        requires fitted { Fitted plan.now.layout self.now }
-        requires link { e < plan.now.layout.links }
-        requires turned { slice_index self.now.turns.items e < plan.now.layout.links + plan.now.layout.doors }
-        ensures { result ≡ «look_spec» (net_of plan.now.layout) e (λ c. get_or (queues self.now) c []) (slice_index self.now.turns.items e) (plan.now.layout.links + plan.now.layout.doors) }
+    pub(crate) fn look(&self, e: usize) -> Option<usize>
+        requires { e < (net_at self.now).links }
+        ensures { result ≡ look (net_at self.now) e (state_of self.now).queue ((state_of self.now).turn e) (channels (net_at self.now)) }
     {
-        let turn = self.turns[e] as usize;
-        let channels = plan.layout.links + plan.layout.doors;
+        let turn = self.links[e].turn as usize;
         let mut found = None;
-        'look: for half in 0..2u8 {
-            let (from, to) = half_from(half, turn, channels);
+        'look: for &(from, to) in &[(turn, self.channels()), (0, turn)] {
             for c in from..to {
-                if self.wants(plan, e, c) {
+                if self.wants(e, c) {
                     found = Some(c);
                     break 'look;
                 }

@@ -5,10 +5,11 @@ mod star;
 
 use anyhow::anyhow;
 use net::{Block, Plan};
+use report::CameLine;
 use round::Running;
 use star::star;
 
-// Every leaf sends one block to every other switch, and the hub one to itself.
+// Every leaf sends one block to every other switch, and the hub one to itself: a door, and a place.
 const BLOCKS: [(u8, u8); 10] = [
     (1, 2),
     (1, 3),
@@ -30,42 +31,21 @@ fn main(rt: HostRuntime) -> anyhow::Result<()> {
 
 fn play(rt: &HostRuntime) -> anyhow::Result<()> {
     let heap = rt.alloc();
-    let Ok(plan) = Plan::new(heap, star(heap)?) else {
-        return Err(anyhow!("the star's table is refused"));
-    };
-    let Ok(mut running) = Running::start(heap, plan) else {
-        return Err(anyhow!("no memory for the star"));
-    };
-    for (name, (door, place)) in BLOCKS.iter().enumerate() {
-        let block = Block {
-            door: *door,
-            place: *place,
-            name: name as u32,
-        };
-        if running.let_in(block).is_err() {
-            return Err(anyhow!("a block is refused"));
-        }
+    let plan = Plan::new(heap, star(heap)?).map_err(|_| anyhow!("the star's table is refused"))?;
+    let mut running = Running::start(heap, plan).map_err(|_| anyhow!("no memory for the star"))?;
+    for (name, &(door, place)) in (0u32..).zip(&BLOCKS) {
+        running
+            .let_in(Block { door, place, name })
+            .map_err(|_| anyhow!("a block is refused"))?;
     }
     let mut shown = 0;
     for _ in 0..ROUNDS {
-        if running.round().is_err() {
-            return Err(anyhow!("a round is refused"));
+        running.round().map_err(|_| anyhow!("a round is refused"))?;
+        let came = running.came();
+        for k in came.iter().skip(shown) {
+            println!(rt; "{}", CameLine(*k))?;
         }
-        shown = show_from(rt, &running, shown)?;
+        shown = came.len();
     }
     Ok(())
-}
-
-// Prints what came after the first `shown`, and says how much has come by now.
-fn show_from(rt: &HostRuntime, running: &Running, shown: usize) -> anyhow::Result<usize> {
-    let came = running.came();
-    for k in came.iter().skip(shown) {
-        let block = k.block;
-        let round = k.round;
-        println!(rt;
-            "came {round} place {} door {} name {}",
-            block.place, block.door, block.name
-        )?;
-    }
-    Ok(came.len())
 }

@@ -1,6 +1,7 @@
 -- What a ring of places gives after a write and after a step, over plain lists.
-use Rattle.std.proofs.Common.{◌≡◌, ℕ, zero, suc, ◌+◌, ◌-◌, ◌%◌, ◌<◌, ◌≤◌, List, [], ◌∷◌, ◌++◌, length, get_or, take, drop, set, Some, sym, refl, ap, ◌∙◌, subst, ⊎_elim, arith}
+use Rattle.std.proofs.Common.{◌≡◌, ℕ, zero, suc, ◌+◌, ◌-◌, ◌%◌, ◌<◌, ◌≤◌, List, [], ◌∷◌, ◌++◌, length, get_or, take, drop, set, Some, sym, ap, ◌∙◌, subst, ⊎_elim, arith}
 use Rattle.std.proofs.lemmas.List.{length-take, length-drop, length-append, append_assoc, append-nil, drop-set-add, drop-set-lt, take-set-le, set-append_left, set-append_right, take_more_set, take-append-le, take-take, drop_all, drop_more, take_more, get_or-take, get_or-drop, get_or_append_left, get_or-append_right}
+use Rattle.std.proofs.Math.Seq.{take-set-lt}
 use Rattle.std.proofs.lemmas.Bool.{cases_lt}
 use Rattle.net.specs.Heads.{head_of, tail_of}
 use Rattle.std.specs.List.{slice_get}
@@ -18,14 +19,6 @@ pub ring_none : {A : Type 0} (xs : List A) (i n : ℕ) → n ≡ 0 → ring_of x
 unfolding ring_of
 ring_none xs i n e = ap (λ (m : ℕ). take m (round xs i)) e
 
--- a write before the place i that the ring is read from
-take_set_lt : {A : Type 0} (xs : List A) (i k : ℕ) (b : A) → k < i → take i (set xs k b) ≡ set (take i xs) k b
-take_set_lt [] zero k b h = refl
-take_set_lt [] (suc i) k b h = refl
-take_set_lt (x ∷ xs) zero k b h = absurd (omega arith)
-take_set_lt (x ∷ xs) (suc i) zero b h = refl
-take_set_lt (x ∷ xs) (suc i) (suc k) b h = ap (λ ys. x ∷ ys) (take_set_lt xs i k b (omega arith))
-
 -- a write at the n-th place from i on
 round_set : {A : Type 0} (xs : List A) (i n k : ℕ) (b : A) → length xs ≡ 32 → i < 32 → n < 32 → k ≡ (i + n) % 32 → round (set xs k b) i ≡ set (round xs i) n b
 round_set xs i n k b l hi hn e = ⊎_elim low high (cases_lt (i + n) 32)
@@ -42,7 +35,7 @@ round_set xs i n k b l hi hn e = ⊎_elim low high (cases_lt (i + n) 32)
     high h = let f : k ≡ n - (32 - i) = omega arith in
         let m : length (drop i xs) ≡ 32 - i = simp length-drop (omega arith) in
         let p : drop i (set xs k b) ≡ drop i xs = drop-set-lt i xs k b (omega arith) in
-        let q : take i (set xs k b) ≡ set (take i xs) k b = take_set_lt xs i k b (omega arith) in
+        let q : take i (set xs k b) ≡ set (take i xs) k b = take-set-lt i xs k b (omega arith) in
         let s = set-append_right (drop i xs) (take i xs) (32 - i) n b m (omega arith) in
         let g : set (take i xs) k b ≡ set (take i xs) (n - (32 - i)) b = ap (λ (j : ℕ). set (take i xs) j b) f in
         cc

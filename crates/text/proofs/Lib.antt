@@ -1,2 +1,3 @@
 pub mod Eachs
+pub mod Chains
 pub mod Walks

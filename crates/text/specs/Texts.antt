@@ -1,5 +1,7 @@
 -- The texts that programs print, as lists of bytes. Assumes nothing.
-use Rattle.std.specs.Prelude.{ℕ, zero, suc, List, [], ◌∷◌, ◌++◌, vec_items, codes, decimal}
+use Rattle.std.specs.Iterator.{Drains}
+use Rattle.std.specs.List.{flat_map}
+use Rattle.std.specs.Prelude.{◌≡◌, ℕ, zero, suc, List, [], ◌∷◌, ◌++◌, vec_items, codes, decimal, Option, IsSome, unwrap_or}
 use Rattle.ring.specs.declared.told.Verdict.{Verdict}
 use Rattle.ring.specs.declared.told.Verdict.TheVariants.{Ring, Ranks}
 use Rattle.report.specs.Lines.{rank_line}
@@ -39,3 +41,11 @@ text_of_ranks rs = codes "no ring\n" ++ each ranked 0 rs
 abbrev pub text_of_verdict : Verdict → List ℕ
 text_of_verdict (Ring cs) = text_of_ring (vec_items cs)
 text_of_verdict (Ranks rs) = text_of_ranks (vec_items rs)
+
+-- the text that a thing shows, where it has one
+abbrev pub shown : {A : Type 0} → (A → Option (List ℕ)) → A → List ℕ
+shown output x = unwrap_or (output x) []
+
+-- A text is written on with all that an iterator gave, in order, where each thing shows a text.
+pub record Writes {S A : Type 0} (output : A → Option (List ℕ)) (steps : S → Option A → S → Type 0) (s : S) (old new : List ℕ) : Type 0 where
+  pub written : ((x : A) → IsSome (output x)) → (xs : List A) × Drains steps s xs × (new ≡ old ++ flat_map (shown output) xs)

@@ -1,15 +1,15 @@
 // The text of a hall that is laid, a fact to a line.
-ghost use Rattle.std.specs.Prelude.{◌≡◌, ℕ, ◌<◌, false, List, ◌++◌, IfOk, string_bytes, OnOk, slice_index, slice_index_or};
-ghost use Rattle.text.specs.Laid.{Way, Ways, along_text, doors_text, end_one, entry_one, text_of_hall, head_text, level_one, links_text, patience_in, road_text, roads_text, row_text, table_text};
-ghost use Rattle.text.specs.Texts.{below, each, numbered};
+ghost use Rattle.std.specs.Prelude.{◌≡◌, ℕ, ◌<◌, List, ◌++◌, IfOk, string_bytes, OnOk, slice_index, EachIndex};
+ghost use Rattle.text.specs.Laid.{Way, Ways, along_text, doors_text, text_of_hall, head_text, links_text, patience_in, road_text, roads_text, row_text, table_text};
 
+use crate::pieces::{Line, Spaced, write_each};
 use plan::Hall;
 use report::{DoorLine, EntryWord, HeadLine, LevelLine, LinkLine, RoadHead, RootLine, TableHead};
-use std::alloc::Global;
+use std::alloc::{AllocError, Global};
 use std::fmt::Write;
 
 // All lines of a hall; a road's line has the links that the table walks from its door for its place.
-pub fn hall_text(heap: Global, hall: &Hall) -> anyhow::Result<String>
+pub fn hall_text(heap: Global, hall: &Hall) -> Result<String, AllocError>
     ensures { IfOk result (λ s. (way : ℕ → ℕ → List ℕ) → Ways hall.now way → string_bytes s ≡ text_of_hall hall.now way) }
 {
     let mut text = String::new(heap);
@@ -24,162 +24,113 @@ pub fn hall_text(heap: Global, hall: &Hall) -> anyhow::Result<String>
 }
 
 // The size of a hall, its root, and the level of each switch.
-fn head(text: &mut String, hall: &Hall) -> anyhow::Result<()>
+fn head(text: &mut String, hall: &Hall) -> Result<(), AllocError>
     ensures { OnOk result (string_bytes text.new ≡ string_bytes text.old ++ head_text hall.now) }
 {
-    let switches = hall.list.switches;
-    let room = hall.list.room;
-    let cables = hall.list.cables.len();
-    writeln!(
-        text,
-        "{}",
-        HeadLine {
-            switches,
-            cables,
-            room
-        }
-    )?;
+    let head = HeadLine {
+        switches: hall.list.switches,
+        cables: hall.list.cables.len(),
+        room: hall.list.room,
+    };
+    writeln!(text, "{head}")?;
     writeln!(text, "{}", RootLine(hall.tree.root))?;
-    levels(text, hall.tree.levels.as_slice())?;
-    Ok(())
-}
-
-fn levels(text: &mut String, levels: &[u8]) -> anyhow::Result<()>
-    ensures { OnOk result (string_bytes text.new ≡ string_bytes text.old ++ each level_one 0 levels.now) }
-{
-    for (switch, level) in levels.iter().enumerate() {
-        let level = *level;
-        writeln!(text, "{}", LevelLine { switch, level })?;
-    }
-    Ok(())
+    let levels = hall.tree.levels.iter().enumerate();
+    write_each(
+        text,
+        levels.map(|(switch, level)| Line(LevelLine {
+            switch,
+            level: *level,
+        })),
+    )
 }
 
 // The patience of a channel.
 fn patience(hall: &Hall, channel: usize) -> u64
     ensures { result ≡ patience_in hall.now channel }
 {
+    // 0 for none: no fact of a hall says that the links of its tree are channels of its plan
     hall.bounds.patience(channel).unwrap_or(0)
 }
 
-// A link with all that is known of it.
-fn link(hall: &Hall, channel: usize) -> LinkLine
-    ensures { (result.channel ≡ channel) × (result.from ≡ slice_index hall.now.tree.cabling.from.items channel) × (result.to ≡ slice_index hall.now.tree.cabling.to.items channel) × (result.up ≡ slice_index_or hall.now.tree.ups.items channel false) × (result.rank ≡ slice_index hall.now.tree.ranks.items channel) × (result.patience ≡ patience_in hall.now channel) }
-{
-    let tree = &hall.tree;
-    LinkLine {
-        channel,
-        from: tree.cabling.from.get(channel).copied().unwrap_or(0),
-        to: tree.cabling.to.get(channel).copied().unwrap_or(0),
-        up: tree.ups.get(channel).copied().unwrap_or(false),
-        rank: tree.ranks.get(channel).copied().unwrap_or(0),
-        patience: patience(hall, channel),
-    }
-}
-
 // All links.
-fn links(text: &mut String, hall: &Hall) -> anyhow::Result<()>
+fn links(text: &mut String, hall: &Hall) -> Result<(), AllocError>
     ensures { OnOk result (string_bytes text.new ≡ string_bytes text.old ++ links_text hall.now) }
 {
-    for channel in 0..hall.tree.cabling.from.len() {
-        writeln!(text, "{}", link(hall, channel))?;
-    }
-    Ok(())
+    let tree = &hall.tree;
+    let links = tree.cabling.links.iter().zip(tree.ways.iter()).enumerate();
+    write_each(
+        text,
+        links.map(|(channel, (link, way))| {
+            Line(LinkLine {
+                channel,
+                from: link.from,
+                to: link.to,
+                up: way.up,
+                rank: way.rank,
+                patience: patience(hall, channel),
+            })
+        }),
+    )
 }
 
 // All doors.
-fn doors(text: &mut String, hall: &Hall) -> anyhow::Result<()>
+fn doors(text: &mut String, hall: &Hall) -> Result<(), AllocError>
     ensures { OnOk result (string_bytes text.new ≡ string_bytes text.old ++ doors_text hall.now) }
 {
     let layout = &hall.bounds.plan.layout;
-    for switch in 0..layout.doors {
-        let channel = layout.links + switch;
-        let patience = patience(hall, channel);
-        writeln!(
-            text,
-            "{}",
-            DoorLine {
+    let switches = 0..layout.doors;
+    write_each(
+        text,
+        switches.map(|switch| {
+            let channel = layout.links + switch;
+            Line(DoorLine {
                 channel,
                 switch,
-                patience
-            }
-        )?;
-    }
-    Ok(())
-}
-
-// The entries of a channel's row.
-fn entries(text: &mut String, hall: &Hall, channel: usize) -> anyhow::Result<()>
-    ensures { OnOk result (string_bytes text.new ≡ string_bytes text.old ++ below (entry_one hall.now channel) hall.now.bounds.plan.layout.places) }
-{
-    for place in 0..hall.bounds.plan.layout.places {
-        write!(
-            text,
-            "{}",
-            EntryWord(hall.bounds.plan.entry(channel, place))
-        )?;
-    }
-    Ok(())
+                patience: patience(hall, channel),
+            })
+        }),
+    )
 }
 
 // The row of a channel.
-fn row(text: &mut String, hall: &Hall, channel: usize) -> anyhow::Result<()>
+fn row(text: &mut String, hall: &Hall, channel: usize) -> Result<(), AllocError>
     ensures { OnOk result (string_bytes text.new ≡ string_bytes text.old ++ row_text hall.now channel) }
 {
+    let plan = &hall.bounds.plan;
     write!(text, "{}", TableHead(channel))?;
-    entries(text, hall, channel)?;
+    let places = 0..plan.layout.places;
+    write_each(
+        text,
+        places.map(|place| EntryWord(plan.entry(channel, place))),
+    )?;
     text.push('\n')?;
     Ok(())
 }
 
 // All rows.
-fn table(text: &mut String, hall: &Hall) -> anyhow::Result<()>
+fn table(text: &mut String, hall: &Hall) -> Result<(), AllocError>
     ensures { OnOk result (string_bytes text.new ≡ string_bytes text.old ++ table_text hall.now) }
 {
     let layout = &hall.bounds.plan.layout;
+    // each row is written in pieces, so it is no thing that an iterator could give
     for channel in 0..layout.links + layout.doors {
         row(text, hall, channel)?;
     }
     Ok(())
 }
 
-// The switches at which the links of a road end.
-fn stops(text: &mut String, hall: &Hall, road: &[u16]) -> anyhow::Result<()>
-    ensures { OnOk result (string_bytes text.new ≡ string_bytes text.old ++ each (end_one hall.now) 0 road.now) }
-{
-    for link in road {
-        let end = hall
-            .bounds
-            .plan
-            .layout
-            .ends
-            .get(*link as usize)
-            .copied()
-            .unwrap_or(0);
-        write!(text, " {end}")?;
-    }
-    Ok(())
-}
-
-// The links of a road.
-fn numbers(text: &mut String, road: &[u16]) -> anyhow::Result<()>
-    ensures { OnOk result (string_bytes text.new ≡ string_bytes text.old ++ each numbered 0 road.now) }
-{
-    for link in road {
-        write!(text, " {link}")?;
-    }
-    Ok(())
-}
-
 // The rest of a road's line: the switches at which its links end, and the links.
-fn along(text: &mut String, hall: &Hall, road: &[u16]) -> anyhow::Result<()>
+fn along(text: &mut String, hall: &Hall, road: &[u16]) -> Result<(), AllocError>
+    requires { EachIndex road.now (λ k. slice_index road.now k < hall.now.bounds.plan.layout.links) }
     ensures { OnOk result (string_bytes text.new ≡ string_bytes text.old ++ along_text hall.now road.now) }
 {
-    stops(text, hall, road)?;
+    let ends = hall.bounds.plan.layout.ends.as_slice();
+    write_each(text, road.iter().map(|link| Spaced(ends[*link as usize])))?;
     write!(text, " links")?;
     if road.is_empty() {
         write!(text, " none")?;
     }
-    numbers(text, road)?;
+    write_each(text, road.iter().map(|link| Spaced(*link)))?;
     text.push('\n')?;
     Ok(())
 }
@@ -191,22 +142,20 @@ fn road(
     hall: &Hall,
     from: usize,
     place: usize,
-) -> anyhow::Result<()>
+) -> Result<(), AllocError>
     requires door { from < hall.now.bounds.plan.layout.doors }
     requires place { place < hall.now.bounds.plan.layout.places }
     ensures { OnOk result ((es : List ℕ) → Way hall.now from place es → string_bytes text.new ≡ string_bytes text.old ++ road_text hall.now from place es) }
 {
-    let Some(links) = hall.road(heap, from, place)? else {
-        return Ok(());
-    };
-    let wait = hall.wait(from, place).unwrap_or(0);
+    let links = hall.road(heap, from, place)?.unwrap();
+    let wait = hall.wait(from, place).unwrap();
     write!(text, "{}", RoadHead { from, place, wait })?;
     along(text, hall, links.as_slice())?;
     Ok(())
 }
 
 // The roads from one door to all places.
-fn roads(text: &mut String, heap: Global, hall: &Hall, from: usize) -> anyhow::Result<()>
+fn roads(text: &mut String, heap: Global, hall: &Hall, from: usize) -> Result<(), AllocError>
     requires { from < hall.now.bounds.plan.layout.doors }
     ensures { OnOk result ((way : ℕ → ℕ → List ℕ) → Ways hall.now way → string_bytes text.new ≡ string_bytes text.old ++ roads_text hall.now way from) }
 {

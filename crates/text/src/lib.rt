@@ -3,6 +3,7 @@
 #![tactic(auto)]
 
 mod hall;
+mod pieces;
 mod rings;
 mod script;
 

@@ -2,41 +2,18 @@
 ghost use Rattle.round.specs.Running.{net_in, state_in};
 ghost use Rattle.std.specs.Prelude.{◌≡◌, [], ◌++◌, length, drop, string_bytes, OnOk};
 ghost use Rattle.store.specs.Store.{items};
-ghost use Rattle.text.specs.Plays.{added_text, block_one, came_text, show_text, store_one, store_text, told_then, waiting_one};
-ghost use Rattle.text.specs.Texts.{below, each};
+ghost use Rattle.text.specs.Plays.{added_text, came_text, show_text, store_one, store_text, told_then, waiting_one};
+ghost use Rattle.text.specs.Texts.{below};
 
-use net::Came;
+use crate::pieces::{Line, write_each};
 use report::{BlockWord, CameLine, ShowLine, StoreHead, WaitingLine};
 use round::{LinkView, Running};
-use std::alloc::Global;
+use std::alloc::{AllocError, Global};
 use std::fmt::Write;
-use store::Store;
 use wire::Thing;
 
-// A line for each of some blocks that came.
-fn came_lines(text: &mut String, came: &[Came]) -> anyhow::Result<()>
-    ensures { OnOk result (string_bytes text.new ≡ string_bytes text.old ++ came_text came.now) }
-{
-    for k in came {
-        writeln!(text, "{}", CameLine(*k))?;
-    }
-    Ok(())
-}
-
-// The blocks of a store, the oldest first.
-fn blocks(text: &mut String, store: &Store) -> anyhow::Result<()>
-    ensures { OnOk result (string_bytes text.new ≡ string_bytes text.old ++ each block_one 0 (items store.now)) }
-{
-    for i in 0..store.len() {
-        if let Some(block) = store.get(i) {
-            write!(text, "{}", BlockWord(block))?;
-        }
-    }
-    Ok(())
-}
-
 // A link as it stands, the oldest block of its store first.
-fn store(text: &mut String, e: usize, link: LinkView<'_>) -> anyhow::Result<()>
+fn store(text: &mut String, e: usize, link: LinkView<'_>) -> Result<(), AllocError>
     ensures { OnOk result (string_bytes text.new ≡ string_bytes text.old ++ store_text e link.entry.free link.entry.turn (items link.entry.store.now)) }
 {
     let head = StoreHead {
@@ -45,7 +22,8 @@ fn store(text: &mut String, e: usize, link: LinkView<'_>) -> anyhow::Result<()>
         turn: link.turn,
     };
     write!(text, "{head}")?;
-    blocks(text, link.store)?;
+    let blocks = (0..link.store.len()).filter_map(|i| link.store.get(i));
+    write_each(text, blocks.map(BlockWord))?;
     if link.store.len() == 0 {
         write!(text, " none")?;
     }
@@ -54,30 +32,33 @@ fn store(text: &mut String, e: usize, link: LinkView<'_>) -> anyhow::Result<()>
 }
 
 // All stores.
-fn stores(text: &mut String, running: &Running) -> anyhow::Result<()>
+fn stores(text: &mut String, running: &Running) -> Result<(), AllocError>
     ensures { OnOk result (string_bytes text.new ≡ string_bytes text.old ++ below (store_one running.now) (net_in running.now).links) }
 {
     for e in 0..running.plan().layout.links {
-        if let Some(link) = running.link(e) {
-            store(text, e, link)?;
-        }
+        store(text, e, running.link(e).unwrap())?;
     }
     Ok(())
 }
 
 // How many blocks wait at each door.
-fn waiting(text: &mut String, running: &Running) -> anyhow::Result<()>
+fn waiting(text: &mut String, running: &Running) -> Result<(), AllocError>
     ensures { OnOk result (string_bytes text.new ≡ string_bytes text.old ++ below (waiting_one running.now) (net_in running.now).doors) }
 {
-    for door in 0..running.plan().layout.doors {
-        let count = running.waiting_at(door).unwrap_or(0);
-        writeln!(text, "{}", WaitingLine { door, count })?;
-    }
-    Ok(())
+    let doors = 0..running.plan().layout.doors;
+    write_each(
+        text,
+        doors.map(|door| {
+            Line(WaitingLine {
+                door,
+                count: running.waiting_at(door).unwrap(),
+            })
+        }),
+    )
 }
 
 // All stores, and how many blocks wait at each door.
-fn show(text: &mut String, running: &Running) -> anyhow::Result<()>
+fn show(text: &mut String, running: &Running) -> Result<(), AllocError>
     ensures { OnOk result (string_bytes text.new ≡ string_bytes text.old ++ show_text running.now) }
 {
     writeln!(text, "{}", ShowLine(running.rounds()))?;
@@ -105,26 +86,28 @@ impl Account {
     }
 
     // Adds what a thing that was played brought.
-    pub fn add(&mut self, running: &Running, thing: Thing) -> anyhow::Result<()>
+    pub fn add(&mut self, running: &Running, thing: Thing) -> Result<(), AllocError>
         ensures text { OnOk result (string_bytes self.new.text ≡ string_bytes self.old.text ++ added_text running.now self.old.told thing) }
         ensures told { OnOk result (self.new.told ≡ told_then running.now self.old.told thing) }
     {
         match thing {
             Thing::Round => self.came(running),
             Thing::Show => show(&mut self.text, running),
-            Thing::Block(_) => Ok(()),
-            Thing::Word(_) => Ok(()),
+            Thing::Block(_) | Thing::Word(_) => Ok(()),
         }
     }
 
     // A line for each block that came since the last round.
-    fn came(&mut self, running: &Running) -> anyhow::Result<()>
+    fn came(&mut self, running: &Running) -> Result<(), AllocError>
         ensures { OnOk result ((string_bytes self.new.text ≡ string_bytes self.old.text ++ came_text (drop self.old.told (state_in running.now).came)) × (self.new.told ≡ length (state_in running.now).came)) }
     {
         let came = running.came();
-        if self.told < came.len() {
-            came_lines(&mut self.text, &came[self.told..])?;
-        }
+        write_each(
+            &mut self.text,
+            came.iter()
+                .skip(self.told)
+                .map(|came| Line(CameLine(*came))),
+        )?;
         self.told = came.len();
         Ok(())
     }

@@ -1,10 +1,10 @@
 -- The ways that the code makes are those of the definition. Assumes nothing.
-use Rattle.std.proofs.Common.{◌≡◌, ℕ, ◌<◌, Bool, ◌&&◌, ◌||◌, eqb, ltb, List, map, length, get_or, sym, ap, ◌∙◌, subst, arith}
-use Rattle.std.specs.List.{All, range_with_len}
+use Rattle.std.proofs.Common.{◌≡◌, ℕ, ◌<◌, ◌&&◌, ◌||◌, eqb, ltb, List, map, length, get_or, sym, ap, ◌∙◌, subst, arith}
+use Rattle.std.specs.List.{All}
 use Rattle.std.proofs.lemmas.List.{length-map, get_or-map, get_or_default}
 use Rattle.std.proofs.lemmas.List.FromFn.{fill_by_all}
 use Rattle.graph.specs.declared.link.Link.{Link}
-use Rattle.graph.specs.Graph.{Graph, Ends, graph_with, no_link}
+use Rattle.graph.specs.Graph.{Ends, graph_with, no_link}
 use Rattle.graph.specs.Layers.{Levelled}
 use Rattle.graph.specs.Tree.{level}
 use Rattle.graph.proofs.Links.{from_at, to_at, link_from, link_to}

@@ -1,5 +1,5 @@
 ghost use Rattle.std.specs.Prelude.{◌≡◌, ◌<◌, ◌≤◌, All, map, length, IfOk, slice_index};
-ghost use Rattle.tree.specs.Legal.{above as «above-spec»};
+ghost use Rattle.tree.specs.Legal.{above};
 ghost use Rattle.tree.specs.Listed.{level_by, rank_by, way_by};
 
 use crate::Way;
@@ -16,21 +16,21 @@ pub(crate) struct Heights<'a> {
 
 impl Heights<'_> {
     // Whether a is above b: its level is lower, or equal and its number lower.
-    fn above(&self, a: usize, b: usize) -> bool
+    fn above(&self, a: u8, b: u8) -> bool
         requires { (a < length self.now.levels.now) × (b < length self.now.levels.now) }
-        ensures { result ≡ «above-spec» (level_by self.now.levels.now) a b }
+        ensures { result ≡ above (level_by self.now.levels.now) a b }
     {
-        let (over, under) = (self.levels[a], self.levels[b]);
+        let (over, under) = (self.levels[usize::from(a)], self.levels[usize::from(b)]);
         over < under || (over == under && a < b)
     }
 
     // The rank of a link that goes up or down, by where it ends.
-    fn rank(&self, up: bool, end: usize) -> u32
+    fn rank(&self, up: bool, end: u8) -> u32
         requires { end < length self.now.levels.now }
         ensures { result ≡ rank_by (length self.now.levels.now) (slice_index self.now.levels.now end) up end }
     {
         let n = self.levels.len() as u32;
-        let number = u32::from(self.levels[end]) * n + end as u32;
+        let number = u32::from(self.levels[usize::from(end)]) * n + u32::from(end);
         let middle = n * n + n;
         if up {
             middle - number
@@ -44,11 +44,10 @@ impl Heights<'_> {
         requires { (link.from < length self.now.levels.now) × (link.to < length self.now.levels.now) }
         ensures { result ≡ way_by self.now.levels.now link }
     {
-        let end = usize::from(link.to);
-        let up = self.above(end, usize::from(link.from));
+        let up = self.above(link.to, link.from);
         Way {
             up,
-            rank: self.rank(up, end),
+            rank: self.rank(up, link.to),
         }
     }
 

@@ -6,16 +6,16 @@
 
 mod answer;
 mod fnv;
-mod hex;
 mod programs;
+mod words;
 
 use answer::Answer;
-use anyhow::anyhow;
-use hex::unhex;
+use anyhow::{Context, bail};
 use programs::{lay, rings, run};
 use std::alloc::Global;
 use std::fmt::Write;
 use std::{env, fs};
+use words::unhex;
 
 fn main(rt: HostRuntime) -> anyhow::Result<()> {
     all(&rt)
@@ -23,11 +23,7 @@ fn main(rt: HostRuntime) -> anyhow::Result<()> {
 
 // Answers each line of the corpus that is named.
 fn all(rt: &HostRuntime) -> anyhow::Result<()> {
-    let mut words = env::args(rt)?;
-    let _program = words.next();
-    let Some(name) = words.next() else {
-        return Err(anyhow!("usage: vectors CORPUS"));
-    };
+    let name = env::args(rt)?.nth(1).context("usage: vectors CORPUS")?;
     let corpus = fs::read_to_string(rt, name.as_str())?;
     let mut text = String::new(rt.alloc());
     for line in corpus.as_str().lines() {
@@ -43,6 +39,7 @@ fn one(heap: Global, line: &str) -> anyhow::Result<Answer> {
     let mut words = line.split(' ');
     let program = words.next().unwrap_or("");
     let first = file(heap, words.next())?;
+    // one match on the word itself: an enum would only name the three words once more
     match program {
         "lay" => lay(heap, first.as_slice()),
         "rings" => rings(heap, first.as_slice()),
@@ -50,17 +47,12 @@ fn one(heap: Global, line: &str) -> anyhow::Result<Answer> {
             let second = file(heap, words.next())?;
             run(heap, first.as_slice(), second.as_slice())
         }
-        _ => Err(anyhow!("a line that is no case")),
+        _ => bail!("a line that is no case"),
     }
 }
 
 // The bytes that a word stands for.
 fn file(heap: Global, word: Option<&str>) -> anyhow::Result<Vec<u8>> {
-    let Some(word) = word else {
-        return Err(anyhow!("a file is missing"));
-    };
-    match unhex(heap, word)? {
-        Some(bytes) => Ok(bytes),
-        None => Err(anyhow!("a file that is not in hexadecimal digits")),
-    }
+    let word = word.context("a file is missing")?;
+    unhex(heap, word)?.context("a file that is not in hexadecimal digits")
 }

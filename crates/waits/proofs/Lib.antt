@@ -1,6 +1,7 @@
 pub mod Plans
-pub mod Feeding
+pub mod Counting
 pub mod Fuel
 pub mod StarWorked
 pub mod Working
 pub mod Roads
+pub mod Slow

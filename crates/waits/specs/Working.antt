@@ -1,16 +1,11 @@
 -- What is known of a list of patiences that is being filled. Assumes nothing.
 use Rattle.std.specs.Prelude.{◌≡◌, ℕ, ◌+◌, ◌^◌, ◌<◌, ◌≤◌, ◌⊎◌, List, length, slice_index}
 use Rattle.net.specs.Net.{Net, channels}
-use Rattle.machine.specs.Waits.{feeders, patience, wait}
+use Rattle.machine.specs.Waits.{patience, wait}
 
 -- No patience, and no wait with nothing before, may be longer.
 abbrev pub longest : ℕ
 longest = 2 ^ 40
-
--- each link has its number of feeders
-pub record Fed (z : Net) (counts : List ℕ) : Type 0 where
-  pub slots : length counts ≡ z.links
-  pub number : (e : ℕ) → e < z.links → slice_index counts e ≡ feeders z e (channels z)
 
 -- A slot holds 0, where nothing is worked out yet, or the patience of its channel, which is not too long.
 pub record Partly (z : Net) (found : List ℕ) : Type 0 where

@@ -4,7 +4,7 @@ ghost use Rattle.waits.specs.declared.error.WaitError.TheVariants.{Memory};
 use std::alloc::{AllocError, AllocFailed};
 
 // Why no bounds are given for a plan: some patience, or some wait with nothing before, is above 2^40; or memory ran out.
-#[derive(Clone, Copy)]
+#[derive(Clone, Copy, Debug, PartialEq, Eq)]
 pub enum WaitError {
     TooLong,
     Memory,

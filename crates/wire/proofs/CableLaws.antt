@@ -8,12 +8,14 @@ use Rattle.wire.specs.declared.fault.Fault.{Fault}
 use Rattle.wire.specs.declared.fault.Fault.TheVariants.{Cut}
 use Rattle.wire.specs.declared.fault.Refusal.{Refusal}
 use Rattle.wire.specs.Faults.{refusal}
-use Rattle.wire.specs.Pairs.{word, pairs, pair_bytes}
+use Rattle.wire.specs.Pairs.{Each, Bytes, word, pair_bytes}
+use Rattle.wire.specs.Files.{file_read, read_as}
 use Rattle.wire.specs.Heads.{within, beginning, unless}
 use Rattle.net.specs.Cables.{Joins}
-use Rattle.wire.specs.Cables.{Cables, cable_by, head_by_bytes, head_of, with_cables, then_cables, cables_read, encode_cables}
-use Rattle.wire.specs.Laws.{begin_of, CablesEncoded, CablesProper, CablesBack, CablesCut}
-use Rattle.wire.proofs.PairLaws.{wrong, each_at, each_drop, Filled, pairs_bytes, pairs_each, pairs_back, pairs_cut}
+use Rattle.wire.specs.Cables.{Cables, Proper, cable_by, head_by_bytes, head_of, list_of, encode_cables}
+use Rattle.wire.specs.Laws.{CablesEncoded, CablesProper, CablesBack, CablesCut}
+use Rattle.wire.proofs.PairLaws.{wrong, each_at, each_drop, Filled, pairs_bytes, pairs_each}
+use Rattle.wire.proofs.FileLaws.{Read, read_before, Accepted, accepted, file_back, file_cut}
 use Rattle.wire.proofs.HeadLaws.{
   Begun,
   begun,
@@ -98,101 +100,85 @@ head_fine n m count a b c d e =
     cond-true (within 64 n) _ _ (within_fine 64 n a b)
     ∙ (cond-true (within 32 m) _ _ (within_fine 32 m c d) ∙ cond-true (leb count 128) _ _ (le-leb count 128 e))
 
--- an accepted file has an accepted head and a row of cables
-record Accepted (bs : List ℕ) (c : Cables) : Type 0 where
-  head : Head
-  is_head : head_of bs ≡ Ok head
-  row : pairs (cable_by head.switches) head.count 5 (drop 5 bs) ≡ Ok c.cables
-  switches : head.switches ≡ c.switches
-  room : head.room ≡ c.room
-
-accepted_row : (h : Head) (bs : List ℕ) (c : Cables) (s : Result (List Cable) Refusal)
-    → head_of bs ≡ Ok h → pairs (cable_by h.switches) h.count 5 (drop 5 bs) ≡ s → with_cables h s ≡ Ok c
-    → Accepted bs c
-accepted_row h bs c (Err e) p t q = wrong _ e c q
-accepted_row h bs c (Ok cs) p t q =
-    let e : record { switches = h.switches; room = h.room; cables = cs } ≡ c = cc in
-    record {
-      head = h;
-      is_head = p;
-      row = t ∙ ap (λ (x : Cables). Ok x.cables) e;
-      switches = ap (λ (x : Cables). x.switches) e;
-      room = ap (λ (x : Cables). x.room) e;
-    }
-
-accepted_head : (bs : List ℕ) (c : Cables) (r : Result Head Fault) → head_of bs ≡ r → then_cables r bs ≡ Ok c
-    → Accepted bs c
-accepted_head bs c (Err f) p q = wrong _ (refusal f 0) c q
-accepted_head bs c (Ok h) p q = accepted_row h bs c _ p refl q
-
-accepted : (bs : List ℕ) (c : Cables) → cables_read bs ≡ Ok c → Accepted bs c
-accepted bs c q = accepted_head bs c (head_of bs) refl q
-
 -- the numbers that the head's bytes spell
 abbrev spelt : List ℕ → Result Head Fault
 spelt bs = head_by_bytes (get_or bs 1 0) (get_or bs 2 0) (word (get_or bs 3 0) (get_or bs 4 0))
 
+-- a file of cables, and the one that was read
+abbrev made_of : Head → ℕ → ℕ → Result Cable Fault
+made_of h = cable_by h.switches
+
+abbrev count_of : Head → ℕ
+count_of h = h.count
+
+abbrev CablesOf : List ℕ → Head → List Cable → Type 0
+CablesOf bs h cs = Accepted head_of made_of count_of 5 bs h cs
+
 -- the head of an accepted file, by its bytes
-record Spelt (bs : List ℕ) (c : Cables) (h : Head) : Type 0 where
+record Spelt (bs : List ℕ) (h : Head) (cs : List Cable) : Type 0 where
   begin : Begun 1 5 bs
   nums : Headed (get_or bs 1 0) (get_or bs 2 0) (word (get_or bs 3 0) (get_or bs 4 0)) h
-  switches : c.switches ≡ get_or bs 1 0
-  room : c.room ≡ get_or bs 2 0
-  count : h.count ≡ 256 * get_or bs 3 0 + get_or bs 4 0
-  row : Filled (Joins c.switches) h.count c.cables
+  switches : h.switches ≡ get_or bs 1 0
+  room : h.room ≡ get_or bs 2 0
+  count : length cs ≡ 256 * get_or bs 3 0 + get_or bs 4 0
+  each : Each (Joins h.switches) cs
 
-spelt_out : (bs : List ℕ) (c : Cables) → (a : Accepted bs c) → Spelt bs c a.head
-spelt_out bs c a =
-    let f : Fine (beginning 1 5 bs) (spelt bs) a.head = unless_ok _ _ _ a.is_head in
-    let h : Headed (get_or bs 1 0) (get_or bs 2 0) (word (get_or bs 3 0) (get_or bs 4 0)) a.head =
+spelt_out : (bs : List ℕ) (h : Head) (cs : List Cable) → CablesOf bs h cs → Spelt bs h cs
+spelt_out bs h cs a =
+    let f : Fine (beginning 1 5 bs) (spelt bs) h = unless_ok _ _ _ a.is_head in
+    let n : Headed (get_or bs 1 0) (get_or bs 2 0) (word (get_or bs 3 0) (get_or bs 4 0)) h =
     headed _ _ _ _ f.value in
-    let w : Filled (Joins a.head.switches) a.head.count c.cables =
-    pairs_each (cable_by a.head.switches) (Joins a.head.switches)
-    (λ x y z e. (cable_reads a.head.switches x y z e).2) a.head.count 5 (drop 5 bs) c.cables a.row in
+    let w : Filled (Joins h.switches) h.count cs =
+    pairs_each (made_of h) (Joins h.switches) (λ x y z e. (cable_reads h.switches x y z e).2) h.count 5 (drop 5 bs) cs a.row in
     record {
       begin = begun 1 5 bs f.none;
-      nums = h;
-      switches = sym (ap (λ (x : Head). x.switches) h.is ∙ a.switches);
-      room = sym (ap (λ (x : Head). x.room) h.is ∙ a.room);
-      count = sym (ap (λ (x : Head). x.count) h.is);
-      row = subst (λ (m : ℕ). Filled (Joins m) a.head.count c.cables) a.switches w;
+      nums = n;
+      switches = sym (ap (λ (x : Head). x.switches) n.is);
+      room = sym (ap (λ (x : Head). x.room) n.is);
+      count = w.count ∙ sym (ap (λ (x : Head). x.count) n.is);
+      each = w.each;
+    }
+
+list_proper : (bs : List ℕ) (h : Head) (cs : List Cable) → Spelt bs h cs → Proper (list_of (h, cs))
+list_proper bs h cs s =
+    record {
+      some = omega (arith, s.switches, s.nums.some);
+      most = omega (arith, s.switches, s.nums.most);
+      roomy = omega (arith, s.room, s.nums.roomy);
+      small = omega (arith, s.room, s.nums.small);
+      few = omega (arith, s.count, s.nums.few);
+      each = s.each;
     }
 
 pub cables_proper : CablesProper
 cables_proper bs c q =
-    let a : Accepted bs c = accepted bs c q in
-    let s : Spelt bs c a.head = spelt_out bs c a in
-    let h : Headed (get_or bs 1 0) (get_or bs 2 0) (word (get_or bs 3 0) (get_or bs 4 0)) a.head = s.nums in
-    let e1 : c.switches ≡ get_or bs 1 0 = s.switches in
-    let e2 : c.room ≡ get_or bs 2 0 = s.room in
-    let n : length c.cables ≡ 256 * get_or bs 3 0 + get_or bs 4 0 = s.row.count ∙ s.count in
-    record {
-      some = omega (arith, e1, h.some);
-      most = omega (arith, e1, h.most);
-      roomy = omega (arith, e2, h.roomy);
-      small = omega (arith, e2, h.small);
-      few = omega (arith, n, h.few);
-      each = s.row.each;
-    }
+    let r : Read list_of (file_read head_of made_of count_of 5 bs) c = read_before list_of _ c q in
+    subst Proper r.same
+    (list_proper bs r.value.0 r.value.1
+    (spelt_out bs r.value.0 r.value.1 (accepted head_of made_of count_of 5 bs r.value.0 r.value.1 r.is)))
+
+list_encoded : (bs : List ℕ) (h : Head) (cs : List Cable) → Bytes bs → CablesOf bs h cs → encode_cables (list_of (h, cs)) ≡ bs
+list_encoded bs h cs small a =
+    let s : Spelt bs h cs = spelt_out bs h cs a in
+    let k : 5 ≤ length bs = s.begin.long in
+    let l4 : get_or bs 4 0 < 256 = each_at (λ (x : ℕ). x < 256) bs 4 0 small (omega arith) in
+    let e0 : get_or bs 0 0 ≡ 1 = s.begin.is in
+    let e1 : h.switches ≡ get_or bs 1 0 = s.switches in
+    let e2 : h.room ≡ get_or bs 2 0 = s.room in
+    let e3 : length cs / 256 ≡ get_or bs 3 0 = omega (arith, s.count, l4) in
+    let e4 : length cs % 256 ≡ get_or bs 4 0 = omega (arith, s.count, l4) in
+    let e5 : pair_bytes high_of low_of cs ≡ drop 5 bs =
+    pairs_bytes (made_of h) high_of low_of (λ x y z _ _ e. let r = cable_reads h.switches x y z e in (r.0, r.1))
+    h.count 5 (drop 5 bs) cs (each_drop (λ (x : ℕ). x < 256) 5 bs small) a.row in
+    let all : bs ≡ get_or bs 0 0 ∷ get_or bs 1 0 ∷ get_or bs 2 0 ∷ get_or bs 3 0 ∷ get_or bs 4 0 ∷ drop 5 bs = five bs k in
+    cc
 
 pub cables_encoded : CablesEncoded
 cables_encoded bs c small q =
-    let a : Accepted bs c = accepted bs c q in
-    let s : Spelt bs c a.head = spelt_out bs c a in
-    let k : 5 ≤ length bs = s.begin.long in
-    let l4 : get_or bs 4 0 < 256 = each_at (λ (x : ℕ). x < 256) bs 4 0 small (omega arith) in
-    let n : length c.cables ≡ 256 * get_or bs 3 0 + get_or bs 4 0 = s.row.count ∙ s.count in
-    let e0 : get_or bs 0 0 ≡ 1 = s.begin.is in
-    let e1 : c.switches ≡ get_or bs 1 0 = s.switches in
-    let e2 : c.room ≡ get_or bs 2 0 = s.room in
-    let e3 : length c.cables / 256 ≡ get_or bs 3 0 = omega (arith, n, l4) in
-    let e4 : length c.cables % 256 ≡ get_or bs 4 0 = omega (arith, n, l4) in
-    let e5 : pair_bytes high_of low_of c.cables ≡ drop 5 bs =
-    pairs_bytes (cable_by a.head.switches) high_of low_of
-    (λ x y z _ _ e. let r = cable_reads a.head.switches x y z e in (r.0, r.1)) a.head.count 5 (drop 5 bs)
-    c.cables (each_drop (λ (x : ℕ). x < 256) 5 bs small) a.row in
-    let all : bs ≡ get_or bs 0 0 ∷ get_or bs 1 0 ∷ get_or bs 2 0 ∷ get_or bs 3 0 ∷ get_or bs 4 0 ∷ drop 5 bs = five bs k in
-    cc
+    let r : Read list_of (file_read head_of made_of count_of 5 bs) c = read_before list_of _ c q in
+    subst (λ (l : Cables). encode_cables l ≡ bs) r.same
+    (list_encoded bs r.value.0 r.value.1 small
+    (accepted head_of made_of count_of 5 bs r.value.0 r.value.1 r.is))
 
 pub cables_back : CablesBack
 cables_back c p =
@@ -206,10 +192,9 @@ cables_back c p =
     ap (λ (o : Option Fault). unless o (head_by_bytes c.switches c.room (word (n / 256) (n % 256)))) b
     ∙ (ap (λ (m : ℕ). head_by_bytes c.switches c.room m) w
     ∙ head_fine c.switches c.room n p.some p.most p.roomy p.small p.few) in
-    ap (λ (r : Result Head Fault). then_cables r bs) e
-    ∙ ap (with_cables h)
-    (pairs_back (cable_by c.switches) high_of low_of (Joins c.switches) (cable_back c.switches) 5 c.cables
-    p.each)
+    ap (read_as list_of)
+    (file_back head_of made_of count_of 5 high_of low_of (Joins c.switches) bs h c.cables e refl refl p.each
+    (cable_back c.switches))
 
 -- a cut after the head leaves the head
 head_still : (bs : List ℕ) (h : Head) (k : ℕ) → head_of bs ≡ Ok h → 5 ≤ k → k ≤ length bs → head_of (take k bs) ≡ Ok h
@@ -229,24 +214,18 @@ head_still bs h k q g l =
     ∙ (ap (λ (x : ℕ). head_by_bytes (get_or bs 1 0) (get_or bs 2 0) (word x (get_or (take k bs) 4 0))) e3
     ∙ (ap (λ (x : ℕ). head_by_bytes (get_or bs 1 0) (get_or bs 2 0) (word (get_or bs 3 0) x)) e4 ∙ v))))
 
-cut_at : (bs : List ℕ) (c : Cables) (k : ℕ) → Accepted bs c → k < length bs → (k < 5) ⊎ (5 ≤ k)
-    → cables_read (take k bs) ≡ Err (refusal Cut (begin_of 5 k))
-cut_at bs c k a l (inl h) =
-    let f : Fine (beginning 1 5 bs) (spelt bs) a.head = unless_ok _ _ _ a.is_head in
-    let z : beginning 1 5 (take k bs) ≡ Some Cut = begins_cut 1 5 bs k (begun 1 5 bs f.none) h in
-    ap (λ (o : Option Fault). then_cables (unless o (spelt (take k bs))) (take k bs)) z
-    ∙ ap (λ (m : ℕ). Err (refusal Cut m)) (sym (begin_head 5 k h))
-cut_at bs c k a l (inr h) =
-    let j : ℕ = k - 5 in
-    let e : head_of (take k bs) ≡ Ok a.head = head_still bs a.head k a.is_head h (omega arith) in
-    let kj : k ≡ 5 + j = omega arith in
-    let d : drop 5 (take k bs) ≡ take j (drop 5 bs) = ap (λ (m : ℕ). drop 5 (take m bs)) kj ∙ drop-take 5 j bs in
-    let make : ℕ → ℕ → Result Cable Fault = cable_by a.head.switches in
-    let x : pairs make a.head.count 5 (take j (drop 5 bs)) ≡ Err (refusal Cut (5 + 2 * (j / 2))) =
-    pairs_cut make a.head.count 5 (drop 5 bs) c.cables j a.row (omega (arith, length-drop 5 bs)) in
-    ap (λ (r : Result Head Fault). then_cables r (take k bs)) e
-    ∙ (ap (λ (ds : List ℕ). with_cables a.head (pairs make a.head.count 5 ds)) d
-    ∙ (ap (with_cables a.head) x ∙ ap (λ (m : ℕ). Err (refusal Cut m)) (sym (begin_after 5 k h))))
+-- a cut inside of the head cuts the head
+head_cut : (bs : List ℕ) (h : Head) (k : ℕ) → head_of bs ≡ Ok h → k < 5 → head_of (take k bs) ≡ Err Cut
+head_cut bs h k q l =
+    let f : Fine (beginning 1 5 bs) (spelt bs) h = unless_ok _ _ _ q in
+    let z : beginning 1 5 (take k bs) ≡ Some Cut = begins_cut 1 5 bs k (begun 1 5 bs f.none) l in
+    ap (λ (o : Option Fault). unless o (spelt (take k bs))) z
 
 pub cables_cut : CablesCut
-cables_cut bs c k q h = cut_at bs c k (accepted bs c q) h (cases_lt k 5)
+cables_cut bs c k q l =
+    let r : Read list_of (file_read head_of made_of count_of 5 bs) c = read_before list_of _ c q in
+    let h : Head = r.value.0 in
+    let a : CablesOf bs h r.value.1 = accepted head_of made_of count_of 5 bs h r.value.1 r.is in
+    ap (read_as list_of)
+    (file_cut head_of made_of count_of 5 bs h r.value.1 k a l (head_cut bs h k a.is_head)
+    (λ g. head_still bs h k a.is_head g (omega arith)))

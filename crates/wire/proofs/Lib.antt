@@ -2,6 +2,7 @@
 pub mod Rows
 pub mod PairLaws
 pub mod HeadLaws
+pub mod FileLaws
 pub mod CableLaws
 pub mod TableLaws
 pub mod Things

@@ -9,11 +9,13 @@ use Rattle.wire.specs.declared.fault.Fault.{Fault}
 use Rattle.wire.specs.declared.fault.Fault.TheVariants.{Cut}
 use Rattle.wire.specs.declared.fault.Refusal.{Refusal}
 use Rattle.wire.specs.Faults.{refusal}
-use Rattle.wire.specs.Pairs.{word, pairs, pair_bytes}
+use Rattle.wire.specs.Pairs.{Bytes, word, pair_bytes}
+use Rattle.wire.specs.Files.{file_read, read_as}
 use Rattle.wire.specs.Heads.{beginning, unless}
-use Rattle.wire.specs.Tables.{Foreign, Leads, entry_by_bytes, entry_of, entry_number, frame_by_bytes, frame_of, with_entries, then_entries, table_read, encode_table}
-use Rattle.wire.specs.Laws.{begin_of, TableEncoded, TableShaped, TableBack, TableCut}
-use Rattle.wire.proofs.PairLaws.{wrong, each_at, each_drop, Filled, pairs_bytes, pairs_each, pairs_back, pairs_cut}
+use Rattle.wire.specs.Tables.{Foreign, Leads, entry_by_bytes, entry_of, entry_number, Shaped, frame_by_bytes, frame_of, table_of, encode_table}
+use Rattle.wire.specs.Laws.{TableEncoded, TableShaped, TableBack, TableCut}
+use Rattle.wire.proofs.PairLaws.{wrong, each_at, each_drop, Filled, pairs_bytes, pairs_each}
+use Rattle.wire.proofs.FileLaws.{Read, read_before, Accepted, accepted, file_back, file_cut}
 use Rattle.wire.proofs.HeadLaws.{
   Begun,
   begun,
@@ -92,99 +94,79 @@ frame_fine : (n m : ℕ) → n ≤ 320 → m ≤ 64 → frame_by_bytes n m ≡ O
 frame_fine n m a b =
     cond-true (leb n 320) _ _ (le-leb n 320 a) ∙ cond-true (leb m 64) _ _ (le-leb m 64 b)
 
--- an accepted file has an accepted head and a row of entries
-record Accepted (bs : List ℕ) (t : Foreign) : Type 0 where
-  frame : Frame
-  is_frame : frame_of bs ≡ Ok frame
-  row : pairs (entry_of frame.channels) (frame.channels * frame.places) 4 (drop 4 bs) ≡ Ok t.entries
-  channels : frame.channels ≡ t.channels
-  places : frame.places ≡ t.places
-
-accepted_row : (f : Frame) (bs : List ℕ) (t : Foreign) (s : Result (List Entry) Refusal)
-    → frame_of bs ≡ Ok f → pairs (entry_of f.channels) (f.channels * f.places) 4 (drop 4 bs) ≡ s
-    → with_entries f s ≡ Ok t → Accepted bs t
-accepted_row f bs t (Err e) p u q = wrong _ e t q
-accepted_row f bs t (Ok es) p u q =
-    let e : record { channels = f.channels; places = f.places; entries = es } ≡ t = cc in
-    record {
-      frame = f;
-      is_frame = p;
-      row = u ∙ ap (λ (x : Foreign). Ok x.entries) e;
-      channels = ap (λ (x : Foreign). x.channels) e;
-      places = ap (λ (x : Foreign). x.places) e;
-    }
-
-accepted_frame : (bs : List ℕ) (t : Foreign) (r : Result Frame Fault) → frame_of bs ≡ r → then_entries r bs ≡ Ok t
-    → Accepted bs t
-accepted_frame bs t (Err x) p q = wrong _ (refusal x 0) t q
-accepted_frame bs t (Ok f) p q = accepted_row f bs t _ p refl q
-
-accepted : (bs : List ℕ) (t : Foreign) → table_read bs ≡ Ok t → Accepted bs t
-accepted bs t q = accepted_frame bs t (frame_of bs) refl q
-
 -- the numbers that the head's bytes spell
 abbrev spelt : List ℕ → Result Frame Fault
 spelt bs = frame_by_bytes (word (get_or bs 1 0) (get_or bs 2 0)) (get_or bs 3 0)
 
+-- a foreign table, and the one that was read
+abbrev made_of : Frame → ℕ → ℕ → Result Entry Fault
+made_of f = entry_of f.channels
+
+abbrev count_of : Frame → ℕ
+count_of f = f.channels * f.places
+
+abbrev EntriesOf : List ℕ → Frame → List Entry → Type 0
+EntriesOf bs f es = Accepted frame_of made_of count_of 4 bs f es
+
 -- the head of an accepted file, by its bytes
-record Spelt (bs : List ℕ) (t : Foreign) (f : Frame) : Type 0 where
+record Spelt (bs : List ℕ) (f : Frame) (es : List Entry) : Type 0 where
   begin : Begun 4 4 bs
   nums : Framed (word (get_or bs 1 0) (get_or bs 2 0)) (get_or bs 3 0) f
-  channels : t.channels ≡ 256 * get_or bs 1 0 + get_or bs 2 0
-  places : t.places ≡ get_or bs 3 0
-  row : Filled (Leads t.channels) (t.channels * t.places) t.entries
+  channels : f.channels ≡ 256 * get_or bs 1 0 + get_or bs 2 0
+  places : f.places ≡ get_or bs 3 0
+  row : Filled (Leads f.channels) (f.channels * f.places) es
 
-spelt_out : (bs : List ℕ) (t : Foreign) → (a : Accepted bs t) → Spelt bs t a.frame
-spelt_out bs t a =
-    let f : Fine (beginning 4 4 bs) (spelt bs) a.frame = unless_ok _ _ _ a.is_frame in
-    let h : Framed (word (get_or bs 1 0) (get_or bs 2 0)) (get_or bs 3 0) a.frame = framed _ _ _ f.value in
-    let n : ℕ = a.frame.channels * a.frame.places in
-    let w : Filled (Leads a.frame.channels) n t.entries =
-    pairs_each (entry_of a.frame.channels) (Leads a.frame.channels)
-    (λ x y z e. (entry_numbered a.frame.channels (word x y) z e).1) n 4 (drop 4 bs) t.entries a.row in
-    let m : n ≡ t.channels * t.places =
-    ap (λ (k : ℕ). k * a.frame.places) a.channels ∙ ap (λ (k : ℕ). t.channels * k) a.places in
+spelt_out : (bs : List ℕ) (f : Frame) (es : List Entry) → EntriesOf bs f es → Spelt bs f es
+spelt_out bs f es a =
+    let x : Fine (beginning 4 4 bs) (spelt bs) f = unless_ok _ _ _ a.is_head in
+    let n : Framed (word (get_or bs 1 0) (get_or bs 2 0)) (get_or bs 3 0) f = framed _ _ _ x.value in
     record {
-      begin = begun 4 4 bs f.none;
-      nums = h;
-      channels = sym (ap (λ (x : Frame). x.channels) h.is ∙ a.channels);
-      places = sym (ap (λ (x : Frame). x.places) h.is ∙ a.places);
+      begin = begun 4 4 bs x.none;
+      nums = n;
+      channels = sym (ap (λ (y : Frame). y.channels) n.is);
+      places = sym (ap (λ (y : Frame). y.places) n.is);
       row =
-          subst (λ (k : ℕ). Filled (Leads k) (t.channels * t.places) t.entries) a.channels
-          (subst (λ (k : ℕ). Filled (Leads a.frame.channels) k t.entries) m w);
+          pairs_each (made_of f) (Leads f.channels) (λ x y z e. (entry_numbered f.channels (word x y) z e).1)
+          (count_of f) 4 (drop 4 bs) es a.row;
     }
 
-pub table_shaped : TableShaped
-table_shaped bs t q =
-    let a : Accepted bs t = accepted bs t q in
-    let s : Spelt bs t a.frame = spelt_out bs t a in
-    let c : t.channels ≡ 256 * get_or bs 1 0 + get_or bs 2 0 = s.channels in
-    let p : t.places ≡ get_or bs 3 0 = s.places in
+foreign_shaped : (bs : List ℕ) (f : Frame) (es : List Entry) → Spelt bs f es → Shaped (table_of (f, es))
+foreign_shaped bs f es s =
     record {
-      few = omega (arith, c, s.nums.few);
-      small = omega (arith, p, s.nums.small);
+      few = omega (arith, s.channels, s.nums.few);
+      small = omega (arith, s.places, s.nums.small);
       full = s.row.count;
       each = s.row.each;
     }
 
-pub table_encoded : TableEncoded
-table_encoded bs t small q =
-    let a : Accepted bs t = accepted bs t q in
-    let s : Spelt bs t a.frame = spelt_out bs t a in
+pub table_shaped : TableShaped
+table_shaped bs t q =
+    let r : Read table_of (file_read frame_of made_of count_of 4 bs) t = read_before table_of _ t q in
+    subst Shaped r.same
+    (foreign_shaped bs r.value.0 r.value.1
+    (spelt_out bs r.value.0 r.value.1 (accepted frame_of made_of count_of 4 bs r.value.0 r.value.1 r.is)))
+
+foreign_encoded : (bs : List ℕ) (f : Frame) (es : List Entry) → Bytes bs → EntriesOf bs f es → encode_table (table_of (f, es)) ≡ bs
+foreign_encoded bs f es small a =
+    let s : Spelt bs f es = spelt_out bs f es a in
     let k : 4 ≤ length bs = s.begin.long in
     let l2 : get_or bs 2 0 < 256 = each_at (λ (x : ℕ). x < 256) bs 2 0 small (omega arith) in
-    let c : t.channels ≡ 256 * get_or bs 1 0 + get_or bs 2 0 = s.channels in
     let e0 : get_or bs 0 0 ≡ 4 = s.begin.is in
-    let e1 : t.channels / 256 ≡ get_or bs 1 0 = omega (arith, c, l2) in
-    let e2 : t.channels % 256 ≡ get_or bs 2 0 = omega (arith, c, l2) in
-    let e3 : t.places ≡ get_or bs 3 0 = s.places in
-    let e4 : pair_bytes high_of low_of t.entries ≡ drop 4 bs =
-    pairs_bytes (entry_of a.frame.channels) high_of low_of
-    (λ x y z _ l e. let r = entry_reads a.frame.channels x y z l e in (r.0, r.1))
-    (a.frame.channels * a.frame.places) 4 (drop 4 bs) t.entries
-    (each_drop (λ (x : ℕ). x < 256) 4 bs small) a.row in
+    let e1 : f.channels / 256 ≡ get_or bs 1 0 = omega (arith, s.channels, l2) in
+    let e2 : f.channels % 256 ≡ get_or bs 2 0 = omega (arith, s.channels, l2) in
+    let e3 : f.places ≡ get_or bs 3 0 = s.places in
+    let e4 : pair_bytes high_of low_of es ≡ drop 4 bs =
+    pairs_bytes (made_of f) high_of low_of (λ x y z _ l e. let r = entry_reads f.channels x y z l e in (r.0, r.1))
+    (count_of f) 4 (drop 4 bs) es (each_drop (λ (x : ℕ). x < 256) 4 bs small) a.row in
     let all : bs ≡ get_or bs 0 0 ∷ get_or bs 1 0 ∷ get_or bs 2 0 ∷ get_or bs 3 0 ∷ drop 4 bs = four bs k in
     cc
+
+pub table_encoded : TableEncoded
+table_encoded bs t small q =
+    let r : Read table_of (file_read frame_of made_of count_of 4 bs) t = read_before table_of _ t q in
+    subst (λ (l : Foreign). encode_table l ≡ bs) r.same
+    (foreign_encoded bs r.value.0 r.value.1 small
+    (accepted frame_of made_of count_of 4 bs r.value.0 r.value.1 r.is))
 
 pub table_back : TableBack
 table_back t p =
@@ -197,10 +179,9 @@ table_back t p =
     let e : frame_of bs ≡ Ok f =
     ap (λ (o : Option Fault). unless o (frame_by_bytes (word (n / 256) (n % 256)) t.places)) b
     ∙ (ap (λ (m : ℕ). frame_by_bytes m t.places) w ∙ frame_fine n t.places p.few p.small) in
-    let c : n * t.places ≡ length t.entries = sym p.full in
-    ap (λ (r : Result Frame Fault). then_entries r bs) e
-    ∙ (ap (λ (m : ℕ). with_entries f (pairs (entry_of n) m 4 (pair_bytes high_of low_of t.entries))) c
-    ∙ ap (with_entries f) (pairs_back (entry_of n) high_of low_of (Leads n) (entry_back n) 4 t.entries p.each))
+    ap (read_as table_of)
+    (file_back frame_of made_of count_of 4 high_of low_of (Leads n) bs f t.entries e refl (sym p.full) p.each
+    (entry_back n))
 
 -- a cut after the head leaves the head
 frame_still : (bs : List ℕ) (f : Frame) (k : ℕ) → frame_of bs ≡ Ok f → 4 ≤ k → k ≤ length bs
@@ -218,25 +199,18 @@ frame_still bs f k q g l =
     ∙ (ap (λ (y : ℕ). frame_by_bytes (word (get_or bs 1 0) y) (get_or (take k bs) 3 0)) e2
     ∙ (ap (λ (y : ℕ). frame_by_bytes (word (get_or bs 1 0) (get_or bs 2 0)) y) e3 ∙ v)))
 
-cut_at : (bs : List ℕ) (t : Foreign) (k : ℕ) → Accepted bs t → k < length bs → (k < 4) ⊎ (4 ≤ k)
-    → table_read (take k bs) ≡ Err (refusal Cut (begin_of 4 k))
-cut_at bs t k a l (inl h) =
-    let f : Fine (beginning 4 4 bs) (spelt bs) a.frame = unless_ok _ _ _ a.is_frame in
-    let z : beginning 4 4 (take k bs) ≡ Some Cut = begins_cut 4 4 bs k (begun 4 4 bs f.none) h in
-    ap (λ (o : Option Fault). then_entries (unless o (spelt (take k bs))) (take k bs)) z
-    ∙ ap (λ (m : ℕ). Err (refusal Cut m)) (sym (begin_head 4 k h))
-cut_at bs t k a l (inr h) =
-    let j : ℕ = k - 4 in
-    let e : frame_of (take k bs) ≡ Ok a.frame = frame_still bs a.frame k a.is_frame h (omega arith) in
-    let kj : k ≡ 4 + j = omega arith in
-    let d : drop 4 (take k bs) ≡ take j (drop 4 bs) = ap (λ (m : ℕ). drop 4 (take m bs)) kj ∙ drop-take 4 j bs in
-    let make : ℕ → ℕ → Result Entry Fault = entry_of a.frame.channels in
-    let n : ℕ = a.frame.channels * a.frame.places in
-    let x : pairs make n 4 (take j (drop 4 bs)) ≡ Err (refusal Cut (4 + 2 * (j / 2))) =
-    pairs_cut make n 4 (drop 4 bs) t.entries j a.row (omega (arith, length-drop 4 bs)) in
-    ap (λ (r : Result Frame Fault). then_entries r (take k bs)) e
-    ∙ (ap (λ (ds : List ℕ). with_entries a.frame (pairs make n 4 ds)) d
-    ∙ (ap (with_entries a.frame) x ∙ ap (λ (m : ℕ). Err (refusal Cut m)) (sym (begin_after 4 k h))))
+-- a cut inside of the head cuts the head
+frame_cut : (bs : List ℕ) (f : Frame) (k : ℕ) → frame_of bs ≡ Ok f → k < 4 → frame_of (take k bs) ≡ Err Cut
+frame_cut bs f k q l =
+    let x : Fine (beginning 4 4 bs) (spelt bs) f = unless_ok _ _ _ q in
+    let z : beginning 4 4 (take k bs) ≡ Some Cut = begins_cut 4 4 bs k (begun 4 4 bs x.none) l in
+    ap (λ (o : Option Fault). unless o (spelt (take k bs))) z
 
 pub table_cut : TableCut
-table_cut bs t k q h = cut_at bs t k (accepted bs t q) h (cases_lt k 4)
+table_cut bs t k q l =
+    let r : Read table_of (file_read frame_of made_of count_of 4 bs) t = read_before table_of _ t q in
+    let f : Frame = r.value.0 in
+    let a : EntriesOf bs f r.value.1 = accepted frame_of made_of count_of 4 bs f r.value.1 r.is in
+    ap (read_as table_of)
+    (file_cut frame_of made_of count_of 4 bs f r.value.1 k a l (frame_cut bs f k a.is_head)
+    (λ g. frame_still bs f k a.is_head g (omega arith)))

@@ -1,5 +1,5 @@
 -- Lists of cables: the file 1, n, m, count (2), then two switches for each cable. Assumes nothing.
-use Rattle.std.specs.Prelude.{◌≡◌, ℕ, ◌/◌, ◌%◌, ◌<◌, ◌≤◌, cond, List, ◌∷◌, length, drop, Ok, Err, vec_items, Result, ◌==◌, nat_le, nat_lt, slice_index}
+use Rattle.std.specs.Prelude.{◌≡◌, ℕ, ◌/◌, ◌%◌, ◌<◌, ◌≤◌, cond, List, ◌∷◌, length, Ok, Err, vec_items, Result, ◌==◌, nat_le, nat_lt, slice_index}
 use Rattle.net.specs.Cables.{Joins}
 use Rattle.net.specs.declared.Cable.{Cable}
 use Rattle.wire.specs.declared.cables.CableList.{CableList}
@@ -7,8 +7,8 @@ use Rattle.wire.specs.declared.cables.Head.{Head}
 use Rattle.wire.specs.declared.fault.Fault.{Fault}
 use Rattle.wire.specs.declared.fault.Fault.TheVariants.{Switches, Room, TooManyCables, NoSwitch, Itself}
 use Rattle.wire.specs.declared.fault.Refusal.{Refusal}
-use Rattle.wire.specs.Faults.{refusal}
-use Rattle.wire.specs.Pairs.{Each, word, pairs, pair_bytes}
+use Rattle.wire.specs.Files.{file_read, read_as}
+use Rattle.wire.specs.Pairs.{Each, word, pair_bytes}
 use Rattle.wire.specs.Heads.{within, beginning, unless}
 
 -- a list of cables: how many switches, how many blocks a store has room for, the cables
@@ -43,17 +43,13 @@ head_by_bytes n m count =
 abbrev pub head_of : List ℕ → Result Head Fault
 head_of bs = unless (beginning 1 5 bs) (head_by_bytes (slice_index bs 1) (slice_index bs 2) (word (slice_index bs 3) (slice_index bs 4)))
 
-abbrev pub with_cables : Head → Result (List Cable) Refusal → Result Cables Refusal
-with_cables h (Ok cs) = Ok (record { switches = h.switches; room = h.room; cables = cs })
-with_cables h (Err e) = Err e
-
-abbrev pub then_cables : Result Head Fault → List ℕ → Result Cables Refusal
-then_cables (Ok h) bs = with_cables h (pairs (cable_by h.switches) h.count 5 (drop 5 bs))
-then_cables (Err f) bs = Err (refusal f 0)
+-- the list of a head and its cables
+abbrev pub list_of : Head × List Cable → Cables
+list_of x = record { switches = x.0.switches; room = x.0.room; cables = x.1 }
 
 -- what a file says, or its first fault: the head, then each cable, then the end
 abbrev pub cables_read : List ℕ → Result Cables Refusal
-cables_read bs = then_cables (head_of bs) bs
+cables_read bs = read_as list_of (file_read head_of (λ h. cable_by h.switches) (λ h. h.count) 5 bs)
 
 -- the file of a list of cables
 abbrev pub encode_cables : Cables → List ℕ

@@ -1,11 +1,16 @@
 -- What the heads of files have in common. Assumes nothing.
-use Rattle.std.specs.Prelude.{ℕ, Bool, cond, ◌&&◌, List, length, Some, None, Err, Option, Result, ◌==◌, nat_le, nat_lt, slice_index}
+use Rattle.std.specs.Prelude.{ℕ, Bool, cond, ◌&&◌, List, [], ◌∷◌, length, Ok, Some, None, Err, Option, Result, ◌==◌, nat_le, nat_lt, slice_index}
 use Rattle.wire.specs.declared.fault.Fault.{Fault}
 use Rattle.wire.specs.declared.fault.Fault.TheVariants.{Kind, Cut}
 
 -- a number from 1 to a limit
 abbrev pub within : ℕ → ℕ → Bool
 within limit n = nat_lt 0 n && nat_le n limit
+
+-- the bytes after a file's first, which is to be a kind
+abbrev pub after_kind : ℕ → List ℕ → Result (List ℕ) Fault
+after_kind kind [] = Err Cut
+after_kind kind (b ∷ bs) = cond (b == kind) (Ok bs) (Err (Kind b))
 
 -- what is wrong with a file's first bytes: there are none, the kind is another, or there are fewer than the head has
 abbrev pub beginning : ℕ → ℕ → List ℕ → Option Fault

@@ -2,6 +2,7 @@
 pub mod Faults
 pub mod Heads
 pub mod Pairs
+pub mod Files
 pub mod Cables
 pub mod Script
 pub mod Tables

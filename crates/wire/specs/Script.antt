@@ -3,10 +3,27 @@ use Rattle.std.specs.Prelude.{ℕ, ◌+◌, ◌/◌, ◌%◌, cond, List, [], �
 use Rattle.net.specs.declared.Block.{Block as Parcel}
 use Rattle.wire.specs.declared.script.Thing.{Thing}
 use Rattle.wire.specs.declared.script.Thing.TheVariants.{Block, Word, Round, Show}
-use Rattle.wire.specs.declared.fault.Fault.TheVariants.{Kind, Cut}
+use Rattle.wire.specs.declared.script.Kind.{Kind}
+use Rattle.wire.specs.declared.script.Kind.TheVariants.{Block as OfBlock, Word as OfWord, Round as OfRound, Show as OfShow}
+use Rattle.wire.specs.declared.fault.Fault.{Fault}
+use Rattle.wire.specs.declared.fault.Fault.TheVariants.{Kind as Unknown, Cut}
 use Rattle.wire.specs.declared.fault.Refusal.{Refusal}
 use Rattle.wire.specs.Faults.{refusal}
 use Rattle.wire.specs.Pairs.{word}
+
+-- the kind of a thing by its first byte
+abbrev pub kind_of : ℕ → Result Kind Fault
+kind_of code =
+    cond (code == 2) (Ok OfBlock)
+    (cond (code == 3) (Ok OfWord)
+    (cond (code == 5) (Ok OfRound)
+    (cond (code == 6) (Ok OfShow)
+    (Err (Unknown code)))))
+
+-- what begins at an offset, with the offset after it, by what it is and how many bytes it takes
+abbrev pub moved : ℕ → Result (Thing × ℕ) Fault → Result (Thing × ℕ) Refusal
+moved at (Ok x) = Ok (x.0, at + x.1)
+moved at (Err f) = Err (refusal f at)
 
 -- four bytes, high byte first
 abbrev pub name4 : ℕ → ℕ → ℕ → ℕ → ℕ
@@ -33,7 +50,7 @@ thing_read at (kind ∷ bs) =
     (cond (kind == 3) (sized 2 (Word (word (slice_index bs 0) (slice_index bs 1))) at bs)
     (cond (kind == 5) (sized 0 Round at bs)
     (cond (kind == 6) (sized 0 Show at bs)
-    (Err (refusal (Kind kind) at)))))
+    (Err (refusal (Unknown kind) at)))))
 
 -- the bytes of a thing
 abbrev pub encode_thing : Thing → List ℕ

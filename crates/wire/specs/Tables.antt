@@ -1,5 +1,5 @@
 -- Foreign tables: the file 4, channels (2), places, then an entry (2) by channel and by place. Assumes nothing.
-use Rattle.std.specs.Prelude.{◌≡◌, ℕ, ◌+◌, ◌-◌, ◌*◌, ◌/◌, ◌%◌, ◌<◌, ◌≤◌, cond, List, ◌∷◌, length, drop, Ok, Err, vec_items, Result, ◌==◌, nat_le, slice_index}
+use Rattle.std.specs.Prelude.{◌≡◌, ℕ, ◌+◌, ◌-◌, ◌*◌, ◌/◌, ◌%◌, ◌<◌, ◌≤◌, cond, List, ◌∷◌, length, Ok, Err, vec_items, Result, ◌==◌, nat_le, slice_index}
 use Rattle.net.specs.declared.Entry.{Entry}
 use Rattle.net.specs.declared.Entry.TheVariants.{Here, Link}
 use Rattle.wire.specs.declared.table.Table.{Table}
@@ -7,9 +7,9 @@ use Rattle.wire.specs.declared.table.Frame.{Frame}
 use Rattle.wire.specs.declared.fault.Fault.{Fault}
 use Rattle.wire.specs.declared.fault.Fault.TheVariants.{NoChannel, TooManyChannels, TooManyPlaces}
 use Rattle.wire.specs.declared.fault.Refusal.{Refusal}
-use Rattle.wire.specs.Faults.{refusal}
+use Rattle.wire.specs.Files.{file_read, read_as}
 use Rattle.wire.specs.Heads.{beginning, unless}
-use Rattle.wire.specs.Pairs.{Each, word, pairs, pair_bytes}
+use Rattle.wire.specs.Pairs.{Each, word, pair_bytes}
 
 -- a foreign table: how many channels and places, and the entries, channel by channel
 pub record Foreign : Type 0 where
@@ -40,17 +40,13 @@ frame_by_bytes channels places =
 abbrev pub frame_of : List ℕ → Result Frame Fault
 frame_of bs = unless (beginning 4 4 bs) (frame_by_bytes (word (slice_index bs 1) (slice_index bs 2)) (slice_index bs 3))
 
-abbrev pub with_entries : Frame → Result (List Entry) Refusal → Result Foreign Refusal
-with_entries f (Ok es) = Ok (record { channels = f.channels; places = f.places; entries = es })
-with_entries f (Err e) = Err e
-
-abbrev pub then_entries : Result Frame Fault → List ℕ → Result Foreign Refusal
-then_entries (Ok f) bs = with_entries f (pairs (entry_of f.channels) (f.channels * f.places) 4 (drop 4 bs))
-then_entries (Err x) bs = Err (refusal x 0)
+-- the table of a head and its entries
+abbrev pub table_of : Frame × List Entry → Foreign
+table_of x = record { channels = x.0.channels; places = x.0.places; entries = x.1 }
 
 -- what a file says, or its first fault: the head, then each entry, then the end
 abbrev pub table_read : List ℕ → Result Foreign Refusal
-table_read bs = then_entries (frame_of bs) bs
+table_read bs = read_as table_of (file_read frame_of (λ f. entry_of f.channels) (λ f. f.channels * f.places) 4 bs)
 
 abbrev pub entry_number : Entry → ℕ
 entry_number Here = 0

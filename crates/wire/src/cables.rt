@@ -1,11 +1,11 @@
-ghost use Rattle.std.specs.Prelude.{◌≡◌, ◌+◌, ◌^◌, ◌<◌, drop, IfOk};
+ghost use Rattle.std.specs.Prelude.{◌≡◌, IfOk};
 ghost use Rattle.wire.specs.Faults.{Answers};
-ghost use Rattle.wire.specs.Pairs.{pairs, pair_at};
 ghost use Rattle.wire.specs.Cables.{Proper, cable_by, head_by_bytes, head_of, listed, cables_read};
 
-use crate::fault::{Fault, Refusal, WireError};
-use crate::head::{beginning, within, word_of};
-use net::Cable;
+use crate::fault::{Fault, WireError};
+use crate::file;
+use crate::head::{FileHead, after_kind, within};
+use net::{Cable, limits};
 use std::alloc::Global;
 
 // How many switches there are, how many blocks a store has room for, and the cables.
@@ -26,26 +26,17 @@ struct Head {
 
 const KIND: u8 = 1;
 
-const HEAD: usize = 5;
-
-const SIZE: usize = 2;
-
-const MOST_SWITCHES: u8 = 64;
-
-const MOST_ROOM: u8 = 32;
-
-const MOST_CABLES: u16 = 128;
-
+// The head of these numbers.
 fn head_from(switches: u8, room: u8, count: u16) -> Result<Head, Fault>
     ensures { result ≡ head_by_bytes switches room count }
 {
-    if !within(MOST_SWITCHES, switches) {
+    if !within(limits::SWITCHES, switches) {
         return Err(Fault::Switches(switches));
     }
-    if !within(MOST_ROOM, room) {
+    if !within(limits::ROOM, room) {
         return Err(Fault::Room(room));
     }
-    if count > MOST_CABLES {
+    if count > limits::CABLES {
         return Err(Fault::TooManyCables(count));
     }
     Ok(Head {
@@ -55,71 +46,43 @@ fn head_from(switches: u8, room: u8, count: u16) -> Result<Head, Fault>
     })
 }
 
-fn head_of(bytes: &[u8]) -> Result<Head, Fault>
-    ensures { result ≡ head_of bytes.now }
-{
-    if let Some(fault) = beginning(KIND, HEAD, bytes) {
-        return Err(fault);
-    }
-    head_from(bytes[1], bytes[2], word_of(bytes[3], bytes[4]))
-}
+impl FileHead for Head {
+    type Thing = Cable;
 
-// A switch that isn't there comes before a cable from a switch to itself.
-fn cable_of(switches: u8, a: u8, b: u8) -> Result<Cable, Fault>
-    ensures { result ≡ cable_by switches a b }
-{
-    if a >= switches {
-        return Err(Fault::NoSwitch(a));
-    }
-    if b >= switches {
-        return Err(Fault::NoSwitch(b));
-    }
-    if a == b {
-        return Err(Fault::Itself(a));
-    }
-    Ok(Cable { a, b })
-}
+    ghost head = { head_of };
 
-// The cable that begins at this offset.
-fn cable_at(switches: u8, bytes: &[u8], at: usize) -> Result<Cable, Refusal>
-    requires { at + 2 < 2 ^ 64 }
-    ensures { result ≡ pair_at (cable_by switches) at (drop at bytes.now) }
-{
-    if bytes.len() < at + SIZE {
-        return Err(Refusal {
-            fault: Fault::Cut,
-            offset: at,
-        });
-    }
-    match cable_of(switches, bytes[at], bytes[at + 1]) {
-        Ok(cable) => Ok(cable),
-        Err(fault) => Err(Refusal { fault, offset: at }),
-    }
-}
+    ghost number = { λ h. h.count };
 
-// The cables after the head, and then the end.
-fn cables_from(
-    heap: Global,
-    switches: u8,
-    count: usize,
-    bytes: &[u8],
-) -> Result<Vec<Cable>, WireError>
-    requires { count < 2 ^ 16 }
-    ensures { Answers (λ v. v.items) (pairs (cable_by switches) count 5 (drop 5 bytes.now)) result }
-{
-    let mut cables = Vec::new(heap);
-    for k in 0..count {
-        let cable = cable_at(switches, bytes, HEAD + SIZE * k)?;
-        cables.push(cable)?;
+    ghost made = { λ h. cable_by h.switches };
+
+    ghost SIZE = { 5 };
+
+    const SIZE: usize = 5;
+
+    fn read(bytes: &[u8]) -> Result<Head, Fault> {
+        let [switches, room, high, low, ..] = after_kind(KIND, bytes)? else {
+            return Err(Fault::Cut);
+        };
+        head_from(*switches, *room, u16::from_be_bytes([*high, *low]))
     }
-    let end = HEAD + SIZE * count;
-    if end < bytes.len() {
-        return Err(WireError::Refused(Refusal {
-            fault: Fault::Extra,
-            offset: end,
-        }));
+
+    fn count(&self) -> usize {
+        self.count as usize
     }
-    Ok(cables)
+
+    // A switch that isn't there comes before a cable from a switch to itself.
+    fn thing(&self, a: u8, b: u8) -> Result<Cable, Fault> {
+        if a >= self.switches {
+            return Err(Fault::NoSwitch(a));
+        }
+        if b >= self.switches {
+            return Err(Fault::NoSwitch(b));
+        }
+        if a == b {
+            return Err(Fault::Itself(a));
+        }
+        Ok(Cable { a, b })
+    }
 }
 
 // What a file of cables says, or its first fault.
@@ -127,15 +90,10 @@ pub fn read_cables(heap: Global, bytes: &[u8]) -> Result<CableList, WireError>
     ensures is { Answers listed (cables_read bytes.now) result }
     ensures proper { IfOk result (λ l. Proper (listed l)) }
 {
-    match head_of(bytes) {
-        Ok(head) => {
-            let cables = cables_from(heap, head.switches, head.count as usize, bytes)?;
-            Ok(CableList {
-                switches: head.switches,
-                room: head.room,
-                cables,
-            })
-        }
-        Err(fault) => Err(WireError::Refused(Refusal { fault, offset: 0 })),
-    }
+    let (head, cables) = file::read::<Head>(heap, bytes)?;
+    Ok(CableList {
+        switches: head.switches,
+        room: head.room,
+        cables,
+    })
 }

@@ -1,11 +1,11 @@
 ghost use Rattle.std.specs.Prelude.{◌≡◌};
-ghost use Rattle.wire.specs.Faults.{fault_number};
+ghost use Rattle.wire.specs.Faults.{fault_number, refusal};
 ghost use Rattle.wire.specs.declared.fault.WireError.TheVariants.{Memory, Refused as «refused»};
 
 use std::alloc::{AllocError, AllocFailed};
 
 // Why a thing is refused, with what the message names. Several causes share a number.
-#[derive(Clone, Copy)]
+#[derive(Clone, Copy, Debug, PartialEq, Eq)]
 pub enum Fault {
     // 1: an unknown kind; the file ends before the thing does; a byte after the last thing.
     Kind(u8),
@@ -41,14 +41,14 @@ pub enum Fault {
 }
 
 // A fault, and the offset of the first byte of the thing that has it.
-#[derive(Clone, Copy)]
+#[derive(Clone, Copy, Debug, PartialEq, Eq)]
 pub struct Refusal {
     pub fault: Fault,
     pub offset: usize,
 }
 
 // Why a reader that allocates gives no value. Want of memory is no fault of the file, and has no number.
-#[derive(Clone, Copy)]
+#[derive(Clone, Copy, Debug, PartialEq, Eq)]
 pub enum WireError {
     Refused(Refusal),
     Memory,
@@ -72,6 +72,16 @@ impl Fault {
             Fault::NoChannel(_) | Fault::TooManyChannels(_) | Fault::TooManyPlaces(_) => 10,
         }
     }
+
+    // A thing that has this fault and begins at this offset.
+    pub fn at(self, offset: usize) -> Refusal
+        ensures { result ≡ refusal self offset }
+    {
+        Refusal {
+            fault: self,
+            offset,
+        }
+    }
 }
 
 impl From<Refusal> for WireError {
@@ -79,6 +89,14 @@ impl From<Refusal> for WireError {
 
     fn from(refusal: Refusal) -> WireError {
         WireError::Refused(refusal)
+    }
+}
+
+impl From<AllocError> for WireError {
+    ghost from_gives = { λ _ r. r ≡ Memory };
+
+    fn from(_refused: AllocError) -> WireError {
+        WireError::Memory
     }
 }
 

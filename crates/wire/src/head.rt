@@ -1,36 +1,51 @@
-ghost use Rattle.std.specs.Prelude.{◌≡◌, ◌<◌, ◌≤◌, length, IfNone};
-ghost use Rattle.wire.specs.Heads.{beginning as «beginning-spec», within as «within-spec»};
-ghost use Rattle.wire.specs.Pairs.{word};
+ghost use Rattle.std.specs.Prelude.{◌≡◌, ℕ, List, length, Ok, Err, IfOk, MatchResult, Result, ◌≤◌};
+ghost use Rattle.wire.specs.Heads.{after_kind as «after_kind-spec», within as «within-spec»};
+ghost use Rattle.wire.specs.declared.fault.Fault.{Fault as Why};
 
 use crate::fault::Fault;
 
-// Two bytes, high byte first.
-pub(crate) fn word_of(high: u8, low: u8) -> u16
-    ensures { result ≡ word high low }
-{
-    (high as u16) * 256 + (low as u16)
+// What comes first in a file: its kind, and the numbers that say how many things follow, of two bytes each.
+pub(crate) trait FileHead: Copy {
+    type Thing: Copy;
+
+    ghost head: { List ℕ → Result Self Why };
+
+    ghost number: { Self → ℕ };
+
+    ghost made: { Self → ℕ → ℕ → Result Self.Thing Why };
+
+    ghost SIZE: { ℕ };
+
+    const SIZE: usize;
+
+    // The head with which these bytes begin.
+    fn read(bytes: &[u8]) -> Result<Self, Fault>
+        ensures is { result ≡ head bytes.now }
+        ensures whole { IfOk result (λ _. SIZE ≤ length bytes.now) };
+
+    // How many things follow.
+    fn count(&self) -> usize
+        ensures { result ≡ number self.now };
+
+    // The thing of these two bytes.
+    fn thing(&self, high: u8, low: u8) -> Result<Self::Thing, Fault>
+        ensures { result ≡ made self.now high low };
 }
 
 // Whether a number is from 1 to a limit.
 pub(crate) fn within(limit: u8, n: u8) -> bool
     ensures { result ≡ «within-spec» limit n }
 {
-    0 < n && n <= limit
+    (1..=limit).contains(&n)
 }
 
-// What is wrong with a file's first bytes, for a head of this kind and size.
-pub(crate) fn beginning(kind: u8, size: usize, bytes: &[u8]) -> Option<Fault>
-    ensures is { result ≡ «beginning-spec» kind size bytes.now }
-    ensures whole { IfNone result (size ≤ length bytes.now) }
+// The bytes after the first, which is to be this kind.
+pub(crate) fn after_kind(kind: u8, bytes: &[u8]) -> Result<&[u8], Fault>
+    ensures { MatchResult result (λ rest. «after_kind-spec» kind bytes.now ≡ Ok rest.now) (λ f. «after_kind-spec» kind bytes.now ≡ Err f) }
 {
-    if bytes.len() == 0 {
-        return Some(Fault::Cut);
+    match bytes {
+        [] => Err(Fault::Cut),
+        [first, rest @ ..] if *first == kind => Ok(rest),
+        [first, ..] => Err(Fault::Kind(*first)),
     }
-    if bytes[0] != kind {
-        return Some(Fault::Kind(bytes[0]));
-    }
-    if bytes.len() < size {
-        return Some(Fault::Cut);
-    }
-    None
 }

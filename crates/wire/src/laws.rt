@@ -3,99 +3,71 @@ ghost use Rattle.wire.specs.Causes.{HeadLowest, CableLowest, FrameLowest};
 ghost use Rattle.wire.specs.Laws.{CablesEncoded, CablesProper, CablesBack, CablesCut, TableEncoded, TableShaped, TableBack, TableCut, ThingEncoded, ThingBack, ThingCut};
 
 // An accepted list of cables is the encoding of its value.
-pub fn cables_encoded() -> u8
+pub fn cables_encoded()
     ensures { CablesEncoded }
-{
-    0
-}
+{}
 
 // The value of an accepted list of cables is one that can be written.
-pub fn cables_proper() -> u8
+pub fn cables_proper()
     ensures { CablesProper }
-{
-    0
-}
+{}
 
 // Reading the encoding of a list of cables gives it back.
-pub fn cables_read_back() -> u8
+pub fn cables_read_back()
     ensures { CablesBack }
-{
-    0
-}
+{}
 
 // A list of cables that is cut is refused where it is cut.
-pub fn cables_cut() -> u8
+pub fn cables_cut()
     ensures { CablesCut }
-{
-    0
-}
+{}
 
 // An accepted table is the encoding of its value.
-pub fn table_encoded() -> u8
+pub fn table_encoded()
     ensures { TableEncoded }
-{
-    0
-}
+{}
 
 // The value of an accepted table is one that can be written.
-pub fn table_shaped() -> u8
+pub fn table_shaped()
     ensures { TableShaped }
-{
-    0
-}
+{}
 
 // Reading the encoding of a table gives it back.
-pub fn table_read_back() -> u8
+pub fn table_read_back()
     ensures { TableBack }
-{
-    0
-}
+{}
 
 // A table that is cut is refused where it is cut.
-pub fn table_cut() -> u8
+pub fn table_cut()
     ensures { TableCut }
-{
-    0
-}
+{}
 
 // A thing that is read is the encoding of its value.
-pub fn thing_encoded() -> u8
+pub fn thing_encoded()
     ensures { ThingEncoded }
-{
-    0
-}
+{}
 
 // Reading the encoding of a thing gives it back.
-pub fn thing_read_back() -> u8
+pub fn thing_read_back()
     ensures { ThingBack }
-{
-    0
-}
+{}
 
 // A thing that is cut is refused at its first byte.
-pub fn thing_cut() -> u8
+pub fn thing_cut()
     ensures { ThingCut }
-{
-    0
-}
+{}
 
 // Of the faults of a cable list's head the lowest number wins.
-pub fn head_lowest() -> u8
+pub fn head_lowest()
     ensures { HeadLowest }
-{
-    0
-}
+{}
 
 // Of the faults of a cable the lowest number wins.
-pub fn cable_lowest() -> u8
+pub fn cable_lowest()
     ensures { CableLowest }
-{
-    0
-}
+{}
 
 // Of the faults of a table's head the lowest number wins. An entry has but one fault besides a cut.
-pub fn frame_lowest() -> u8
+pub fn frame_lowest()
     ensures { FrameLowest }
-{
-    0
-}
+{}

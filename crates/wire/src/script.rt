@@ -1,13 +1,11 @@
-ghost use Rattle.std.specs.Prelude.{◌≡◌, ◌+◌, ◌<◌, ◌≤◌, length, drop, MatchResult, slice_index};
-ghost use Rattle.wire.specs.Pairs.{word};
-ghost use Rattle.wire.specs.Script.{block_of, name4, thing_read};
+ghost use Rattle.std.specs.Prelude.{◌≡◌, ℕ, ◌<◌, ◌≤◌, length, drop, IfOk, MatchResult};
+ghost use Rattle.wire.specs.Script.{kind_of, moved, thing_read};
 
 use crate::fault::{Fault, Refusal};
-use crate::head::word_of;
 use net::Block;
 
 // One thing of a script: a block for a door, a word of a free place of a link, a round to play, all stores to show.
-#[derive(Clone, Copy)]
+#[derive(Clone, Copy, Debug, PartialEq, Eq)]
 pub enum Thing {
     Block(Block),
     Word(u16),
@@ -15,44 +13,56 @@ pub enum Thing {
     Show,
 }
 
-const BLOCK: u8 = 2;
+// What a thing of a script begins with.
+#[derive(Clone, Copy, Debug, PartialEq, Eq)]
+enum Kind {
+    Block,
+    Word,
+    Round,
+    Show,
+}
 
-const WORD: u8 = 3;
+impl TryFrom<u8> for Kind {
+    type Error = Fault;
 
-const ROUND: u8 = 5;
+    ghost try_from_gives = { λ code r. r ≡ kind_of code };
 
-const SHOW: u8 = 6;
+    fn try_from(code: u8) -> Result<Kind, Fault> {
+        match code {
+            2 => Ok(Kind::Block),
+            3 => Ok(Kind::Word),
+            5 => Ok(Kind::Round),
+            6 => Ok(Kind::Show),
+            _ => Err(Fault::Kind(code)),
+        }
+    }
+}
 
 const BLOCK_SIZE: usize = 7;
 
 const WORD_SIZE: usize = 3;
 
-// Four bytes, high byte first.
-fn name_of(a: u8, b: u8, c: u8, d: u8) -> u32
-    ensures { result ≡ name4 a b c d }
+// The thing with which these bytes begin, and how many bytes it takes.
+fn thing_of(bytes: &[u8]) -> Result<(Thing, usize), Fault>
+    ensures is { (at : ℕ) → moved at result ≡ thing_read at bytes.now }
+    ensures fits { IfOk result (λ x. (0 < x.1) × (x.1 ≤ length bytes.now)) }
 {
-    (word_of(a, b) as u32) * 65536 + (word_of(c, d) as u32)
-}
-
-// The block that begins at this offset.
-fn block_at(bytes: &[u8], at: usize) -> Block
-    requires { at + 7 ≤ length bytes.now }
-    ensures { result ≡ block_of (drop (at + 1) bytes.now) }
-{
-    let name = name_of(bytes[at + 3], bytes[at + 4], bytes[at + 5], bytes[at + 6]);
-    Block {
-        door: bytes[at + 1],
-        place: bytes[at + 2],
-        name,
+    let [kind, rest @ ..] = bytes else {
+        return Err(Fault::Cut);
+    };
+    match (Kind::try_from(*kind)?, rest) {
+        (Kind::Block, [door, place, a, b, c, d, ..]) => {
+            let name = u32::from_be_bytes([*a, *b, *c, *d]);
+            let (door, place) = (*door, *place);
+            Ok((Thing::Block(Block { door, place, name }), BLOCK_SIZE))
+        }
+        (Kind::Word, [high, low, ..]) => {
+            Ok((Thing::Word(u16::from_be_bytes([*high, *low])), WORD_SIZE))
+        }
+        (Kind::Round, _) => Ok((Thing::Round, 1)),
+        (Kind::Show, _) => Ok((Thing::Show, 1)),
+        (Kind::Block | Kind::Word, _) => Err(Fault::Cut),
     }
-}
-
-// The link of the word that begins at this offset.
-fn word_at(bytes: &[u8], at: usize) -> u16
-    requires { at + 3 ≤ length bytes.now }
-    ensures { result ≡ word (slice_index (drop (at + 1) bytes.now) 0) (slice_index (drop (at + 1) bytes.now) 1) }
-{
-    word_of(bytes[at + 1], bytes[at + 2])
 }
 
 // The thing that begins at this offset, and the offset after it; at the end of the script there is none, so ask first
@@ -61,32 +71,7 @@ pub fn thing_at(bytes: &[u8], at: usize) -> Result<(Thing, usize), Refusal>
     ensures is { result ≡ thing_read at (drop at bytes.now) }
     ensures on { MatchResult result (λ x. (at < x.1) × (x.1 ≤ length bytes.now)) (λ e. e.offset ≡ at) }
 {
-    let cut = Err(Refusal {
-        fault: Fault::Cut,
-        offset: at,
-    });
-    if at >= bytes.len() {
-        return cut;
-    }
-    let left = bytes.len() - at;
-    match bytes[at] {
-        BLOCK => {
-            if left < BLOCK_SIZE {
-                return cut;
-            }
-            Ok((Thing::Block(block_at(bytes, at)), at + BLOCK_SIZE))
-        }
-        WORD => {
-            if left < WORD_SIZE {
-                return cut;
-            }
-            Ok((Thing::Word(word_at(bytes, at)), at + WORD_SIZE))
-        }
-        ROUND => Ok((Thing::Round, at + 1)),
-        SHOW => Ok((Thing::Show, at + 1)),
-        kind => Err(Refusal {
-            fault: Fault::Kind(kind),
-            offset: at,
-        }),
-    }
+    let left = bytes.get(at..).unwrap_or(&[]);
+    let (thing, size) = thing_of(left).map_err(|fault| fault.at(at))?;
+    Ok((thing, at + size))
 }

@@ -1,11 +1,11 @@
-ghost use Rattle.std.specs.Prelude.{◌≡◌, ◌+◌, ◌^◌, ◌<◌, drop, IfOk};
+ghost use Rattle.std.specs.Prelude.{◌≡◌, ◌*◌, IfOk};
 ghost use Rattle.wire.specs.Faults.{Answers};
-ghost use Rattle.wire.specs.Pairs.{pairs, pair_at};
-ghost use Rattle.wire.specs.Tables.{Shaped, entry_by_bytes, entry_of, frame_by_bytes, frame_of, table_read, tabled};
+ghost use Rattle.wire.specs.Tables.{Shaped, entry_of, frame_by_bytes, frame_of, table_read, tabled};
 
-use crate::fault::{Fault, Refusal, WireError};
-use crate::head::{beginning, word_of};
-use net::Entry;
+use crate::fault::{Fault, WireError};
+use crate::file;
+use crate::head::{FileHead, after_kind};
+use net::{Entry, limits};
 use std::alloc::Global;
 
 // A foreign table: the entry of channel c for place p stands at c * places + p.
@@ -25,88 +25,54 @@ struct Frame {
 
 const KIND: u8 = 4;
 
-const HEAD: usize = 4;
-
-const SIZE: usize = 2;
-
-const MOST_CHANNELS: u16 = 320;
-
-const MOST_PLACES: u8 = 64;
-
+// The head of these numbers.
 fn frame_from(channels: u16, places: u8) -> Result<Frame, Fault>
     ensures { result ≡ frame_by_bytes channels places }
 {
-    if channels > MOST_CHANNELS {
+    if channels > limits::FOREIGN_CHANNELS {
         return Err(Fault::TooManyChannels(channels));
     }
-    if places > MOST_PLACES {
+    if places > limits::FOREIGN_PLACES {
         return Err(Fault::TooManyPlaces(places));
     }
     Ok(Frame { channels, places })
 }
 
-fn frame_of(bytes: &[u8]) -> Result<Frame, Fault>
-    ensures { result ≡ frame_of bytes.now }
-{
-    if let Some(fault) = beginning(KIND, HEAD, bytes) {
-        return Err(fault);
-    }
-    frame_from(word_of(bytes[1], bytes[2]), bytes[3])
-}
+impl FileHead for Frame {
+    type Thing = Entry;
 
-// The entry of this number, which is 0 for here and else the next channel + 1.
-fn entry_from(channels: u16, e: u16) -> Result<Entry, Fault>
-    ensures { result ≡ entry_by_bytes channels e }
-{
-    if e == 0 {
-        return Ok(Entry::Here);
-    }
-    if e > channels {
-        return Err(Fault::NoChannel(e - 1));
-    }
-    Ok(Entry::Link(e - 1))
-}
+    ghost head = { frame_of };
 
-// The entry that begins at this offset.
-fn entry_at(channels: u16, bytes: &[u8], at: usize) -> Result<Entry, Refusal>
-    requires { at + 2 < 2 ^ 64 }
-    ensures { result ≡ pair_at (entry_of channels) at (drop at bytes.now) }
-{
-    if bytes.len() < at + SIZE {
-        return Err(Refusal {
-            fault: Fault::Cut,
-            offset: at,
-        });
-    }
-    match entry_from(channels, word_of(bytes[at], bytes[at + 1])) {
-        Ok(entry) => Ok(entry),
-        Err(fault) => Err(Refusal { fault, offset: at }),
-    }
-}
+    ghost number = { λ f. f.channels * f.places };
 
-// The entries after the head, and then the end.
-fn entries_from(
-    heap: Global,
-    channels: u16,
-    count: usize,
-    bytes: &[u8],
-) -> Result<Vec<Entry>, WireError>
-    requires { count < 2 ^ 32 }
-    ensures { Answers (λ v. v.items) (pairs (entry_of channels) count 4 (drop 4 bytes.now)) result }
-{
-    let mut entries = Vec::new(heap);
-    for k in 0..count {
-        let entry = entry_at(channels, bytes, HEAD + SIZE * k)?;
-        entries.push(entry)?;
+    ghost made = { λ f. entry_of f.channels };
+
+    ghost SIZE = { 4 };
+
+    const SIZE: usize = 4;
+
+    fn read(bytes: &[u8]) -> Result<Frame, Fault> {
+        let [high, low, places, ..] = after_kind(KIND, bytes)? else {
+            return Err(Fault::Cut);
+        };
+        frame_from(u16::from_be_bytes([*high, *low]), *places)
     }
-    let end = HEAD + SIZE * count;
-    if end < bytes.len() {
-        return Err(WireError::Refused(Refusal {
-            fault: Fault::Extra,
-            offset: end,
-        }));
+
+    fn count(&self) -> usize {
+        self.channels as usize * self.places as usize
     }
-    Ok(entries)
+
+    // The entry's number is 0 for here and else the next channel + 1.
+    fn thing(&self, high: u8, low: u8) -> Result<Entry, Fault> {
+        let e = u16::from_be_bytes([high, low]);
+        if e == 0 {
+            return Ok(Entry::Here);
+        }
+        if e > self.channels {
+            return Err(Fault::NoChannel(e - 1));
+        }
+        Ok(Entry::Link(e - 1))
+    }
 }
 
 // What a file of a foreign table says, or its first fault.
@@ -114,17 +80,10 @@ pub fn read_table(heap: Global, bytes: &[u8]) -> Result<Table, WireError>
     ensures is { Answers tabled (table_read bytes.now) result }
     ensures shaped { IfOk result (λ t. Shaped (tabled t)) }
 {
-    match frame_of(bytes) {
-        Ok(frame) => {
-            let channels = frame.channels as usize;
-            let places = frame.places as usize;
-            let entries = entries_from(heap, frame.channels, channels * places, bytes)?;
-            Ok(Table {
-                channels,
-                places,
-                entries,
-            })
-        }
-        Err(fault) => Err(WireError::Refused(Refusal { fault, offset: 0 })),
-    }
+    let (frame, entries) = file::read::<Frame>(heap, bytes)?;
+    Ok(Table {
+        channels: frame.channels as usize,
+        places: frame.places as usize,
+        entries,
+    })
 }

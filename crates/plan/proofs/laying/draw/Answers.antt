@@ -1,13 +1,14 @@
-use Rattle.std.proofs.Common.{subst}
-use Rattle.net.specs.declared.error.PlanError.{PlanError}
-use Rattle.net.specs.Planned.{Refuses}
-use Rattle.plan.proofs.Accepted.{drawn, never_falls}
+-- The plan of a layout that was laid out of a tree. Assumes nothing.
+use Rattle.std.proofs.Common.{◌≡◌, MatchResult, rules}
+use Rattle.std.proofs.lemmas.Result.{MatchResult-weaker}
+use Rattle.table.specs.Promised.{LaidOut}
+use Rattle.wire.specs.declared.fault.WireError.TheVariants.{Memory}
+use Rattle.plan.proofs.Accepted.{drawn}
 use Rattle.plan.proofs.laying.draw.Goals as goal
 
-pub unreachable-requires-in-Falls : goal.unreachable-requires-in-Falls
-unreachable-requires-in-Falls c =
-    never_falls c.in-Ok.layout _ _ c.in-Ok.ensures.serves.good
-    (subst (λ (e : PlanError). Refuses c.in-Ok.layout e) c.in-Falls.is c.in-Err.ensures).1
-
-pub returns-in-Ok-new : goal.returns-in-Ok-new
-returns-in-Ok-new c = drawn c.args.tree.now c.args.room c.in-Ok.layout c.in-Ok-new.plan c.in-Ok.ensures c.in-Ok-new.ensures.0
+pub returns : goal.returns
+returns c =
+    let laid : LaidOut c.args.tree.now c.args.room c.in_ok-layout.layout = c.in_ok-layout.ensures in
+    let made : MatchResult c.map_err.result (λ p. p.layout ≡ c.in_ok-layout.layout) (λ e. e ≡ Memory) = search rules in
+    MatchResult-weaker c.map_err.result made
+    (λ p e. drawn c.args.tree.now c.args.room c.in_ok-layout.layout p laid e) (λ _ e. e)

@@ -1,7 +1,7 @@
 -- What the loop of `fewest` keeps: the best of the lowest members so far. Assumes nothing.
-use Rattle.ring.specs.Fewest.{Fewest}
-use Rattle.ring.specs.Layers.{Feeds}
+use Rattle.ring.specs.Fewest.{FewestOf}
+use Rattle.ring.specs.Graph.{FeedsIn}
 use Rattle.ring.proofs.shortest.fewest.Given as goal
 
-abbrev pub invariant-loop-c : goal.invariant-loop-c
-invariant-loop-c l = Fewest (Feeds l.rows l.n) l.n l.c l.best.low l.best.members
+abbrev pub invariant-loop-low : goal.invariant-loop-low
+invariant-loop-low l = FewestOf (FeedsIn l.graph) l.graph.channels l.low l.best

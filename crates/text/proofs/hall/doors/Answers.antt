@@ -1,15 +1,10 @@
-use Rattle.std.proofs.Common.{ℕ, ◌+◌, ◌++◌, string_bytes, codes, refl, ap, ◌∙◌}
-use Rattle.report.specs.Lines.{door_line}
+use Rattle.std.proofs.Common.{refl, rules}
+use Rattle.std.proofs.lemmas.Result.{IfOk-weaker}
 use Rattle.text.specs.Laid.{door_one}
-use Rattle.text.proofs.Eachs.{below_starts, below_grows}
+use Rattle.text.proofs.Chains.{below_written}
 use Rattle.text.proofs.hall.doors.Goals as goal
 
-pub loop-switch-init : goal.loop-switch-init
-loop-switch-init c = below_starts (door_one c.args.hall.now) (string_bytes c.args.text.now) (string_bytes c.args.text.now) refl
-
-pub loop-switch-preserved : goal.loop-switch-preserved
-loop-switch-preserved c =
+pub returns : goal.returns
+returns c =
     let h = c.args.hall.now in
-    let s = string_bytes c.loop-switch.text in
-    below_grows (door_one c.args.hall.now) (string_bytes c.args.text.now) s (string_bytes c.writeln.new.self) c.loop-switch.switch c.loop-switch.invariant
-    (c.in_ok-writeln.ensures.bytes ∙ ap (λ (x : ℕ). s ++ (door_line (h.bounds.plan.layout.links + c.loop-switch.switch) c.loop-switch.switch x ++ codes "\n")) c.patience-patience.ensures)
+    IfOk-weaker c.write_each.result _ _ (λ _ w. below_written _ (door_one h) h.bounds.plan.layout.doors w (search rules) c.map.ensures.closure (λ x. refl) (λ k x q e. search rules)) c.write_each.ensures

@@ -6,4 +6,4 @@ pub returns : goal.returns
 returns c =
     let h = c.args.hall.now in
     value_or (vec_items h.bounds.found) c.patience.result c.args.channel (h.bounds.plan.layout.links + h.bounds.plan.layout.doors) _ c.unwrap_or.result c.patience.ensures c.unwrap_or.ensures
-    (omega (arith, h.bounds.slots)) (h.bounds.right c.args.channel)
+    (omega (arith, h.bounds.complete.slots)) (h.bounds.complete.right c.args.channel)

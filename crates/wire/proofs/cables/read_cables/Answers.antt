@@ -3,6 +3,5 @@ use Rattle.std.proofs.Common.{rules}
 use Rattle.wire.proofs.CableLaws.{cables_proper}
 use Rattle.wire.proofs.cables.read_cables.Goals as goal
 
-pub returns-in_ok-cables-in-Ok : goal.returns-in_ok-cables-in-Ok
-returns-in_ok-cables-in-Ok c =
-    record { is = search rules; proper = cables_proper c.args.bytes.now _ (search rules) }
+pub returns-clause-proper : goal.returns-clause-proper
+returns-clause-proper c = cables_proper c.args.bytes.now _ (search rules)

@@ -1,9 +1,6 @@
-use Rattle.std.proofs.Common.{◌≡◌, ℕ, ◌<◌, List, ap, ◌∙◌, subst, refl}
+use Rattle.std.proofs.Common.{◌≡◌, ◌<◌, ap, ◌∙◌, subst, refl}
 use Rattle.std.proofs.lemmas.Result.{err_from_is_err_and}
-use Rattle.graph.specs.declared.link.Link.{Link}
-use Rattle.graph.specs.Cables.{graph_of}
 use Rattle.graph.specs.Graph.{Graph, graph_with}
-use Rattle.graph.specs.Layers.{Linked}
 use Rattle.graph.specs.Tree.{Joined, Lost, root}
 use Rattle.graph.proofs.Links.{linked_of, graph_links}
 use Rattle.graph.proofs.cabling.Cabling.new.Goals as goal
@@ -16,7 +13,7 @@ returns-in_err-root c =
     let n = c.args.switches in
     let e = c.in_ok-start.ensures.0 ∙ ap (graph_with n) (c.deref.ensures.value ∙ c.in_ok-links.ensures) ∙ graph_links n c.args.cables.now in
     let p = err_from_is_err_and c.from_residual-in_err-root.result c.from_residual-in_err-root.ensures.1 in
-    rw (p.1, p.2) (c.in_ok-check.ensures, subst (λ (g : Graph). Lost g c.in_err-root.field-0.0.switch) e c.in_err-root.ensures)
+    rw (p.1, p.2) (c.in_ok-check.ensures, subst (λ (g : Graph). Lost g c.in_err-root.field-0.0.lost) e c.in_err-root.ensures)
 
 pub invariant_of-result : goal.invariant_of-result
 invariant_of-result c =

@@ -1,4 +1,4 @@
-use Rattle.std.proofs.Common.{◌≡◌, ℕ, suc, ◌+◌, ◌-◌, ◌<◌, vec_items, vec_len, sym, ap, ◌∙◌, subst, arith}
+use Rattle.std.proofs.Common.{◌≡◌, ℕ, suc, ◌+◌, ◌-◌, vec_items, vec_len, sym, ap, ◌∙◌, subst, arith}
 use Rattle.graph.specs.Graph.{Graph}
 use Rattle.graph.specs.Reach.{over}
 use Rattle.graph.proofs.Rooted.{Late, center_found, center_by, late_more}

@@ -1,4 +1,4 @@
-use Rattle.std.proofs.Common.{◌≡◌, ℕ, ◌<◌, List, map, length, get_or, vec_items, vec_len, sym, refl, ap, ◌∙◌, subst, arith}
+use Rattle.std.proofs.Common.{◌≡◌, ℕ, List, map, length, get_or, vec_items, vec_len, sym, refl, ap, ◌∙◌, subst, arith}
 use Rattle.std.proofs.Math.ListN.{length-map}
 use Rattle.std.proofs.lemmas.List.{get_or_read}
 use Rattle.graph.specs.Graph.{graph_with}
@@ -46,10 +46,10 @@ loop-link-preserved c =
     let n : length sets ≡ vec_len y.sets = sym c.loop-link.sets.ok.0 ∙ c.loop-link.invariant.same in
     record {
       same = c.loop-link.invariant.same;
-      added = added_link (over y) before sets k c.from-in-loop-link.result c.index_mut.result.now c.index.result.now
-          (omega arith) (omega arith) (c.from-in-loop-link.ensures ∙ sym f)
+      added = added_link (over y) before sets k c.from.result c.add.new.self c.index_mut.result.now c.index.result.now
+          (omega arith) (omega arith) (c.from.ensures ∙ sym f) c.add.ensures
           (get_or_read sets _ _ (omega arith) c.index_mut.ensures.value 0)
-          (get_or_read before _ _ (omega arith) c.index.ensures 0 ∙ ap (λ (i : ℕ). get_or before i 0) (c.from.ensures ∙ sym t))
+          (get_or_read before _ _ (omega arith) c.index.ensures 0 ∙ ap (λ (i : ℕ). get_or before i 0) (c.from-in-loop-link.ensures ∙ sym t))
           c.loop-link.invariant.added;
     }
 

@@ -1,4 +1,4 @@
-use Rattle.std.proofs.Common.{◌≡◌, ◌-◌, vec_items}
+use Rattle.std.proofs.Common.{◌≡◌, vec_items}
 use Rattle.graph.specs.Reach.{over}
 use Rattle.graph.proofs.Rooted.{Counted}
 use Rattle.graph.proofs.layers.Layers.levels.Given as goal

@@ -1,4 +1,4 @@
-use Rattle.std.proofs.Common.{◌≡◌, ℕ, ◌*◌, ◌%◌, ◌^◌, map, vec_items, vec_len, sym, ap, ◌∙◌, subst, length, arith}
+use Rattle.std.proofs.Common.{◌≡◌, ℕ, ◌^◌, map, vec_items, vec_len, sym, ap, ◌∙◌, subst, length, arith}
 use Rattle.std.specs.List.{range_with_len}
 use Rattle.std.proofs.lemmas.List.FromFn.{length-map-range_with_len}
 use Rattle.graph.specs.Graph.{graph_with}
@@ -17,6 +17,6 @@ returns c =
     let e : vec_len c.in_ok-sets.sets ≡ c.args.switches =
     c.in_ok-sets.sets.ok.0 ∙ ap length c.in_ok-sets.ensures ∙ length-map-range_with_len _ 0 c.args.switches in (
       ap (λ (n : ℕ). graph_with n c.args.links.now) e,
-      reached_none (graph_with (vec_len c.in_ok-sets.sets) c.args.links.now) (vec_items c.in_ok-sets.sets) (let f = c.requires.few in omega arith)
-          (subst (λ (n : ℕ). vec_items c.in_ok-sets.sets ≡ map (λ s. (1 * 2 ^ s) % 2 ^ 64) (range_with_len 0 n)) (sym e) c.in_ok-sets.ensures),
+      reached_none (graph_with (vec_len c.in_ok-sets.sets) c.args.links.now) (vec_items c.in_ok-sets.sets)
+          (subst (λ (n : ℕ). vec_items c.in_ok-sets.sets ≡ map (λ s. 2 ^ s) (range_with_len 0 n)) (sym e) c.in_ok-sets.ensures),
     )

@@ -1,30 +1,25 @@
-use Rattle.std.proofs.Common.{sym, refl, ap, ◌∙◌, subst, arith}
-use Rattle.net.proofs.Outside.{plan_good}
+use Rattle.std.proofs.Common.{refl, ap, ◌∙◌, arith}
+use Rattle.machine.specs.Round.{all_handed, handed_over}
 use Rattle.net.specs.Layout.{net_of}
-use Rattle.machine.specs.Round.{State, all_handed, handed_over}
-use Rattle.round.specs.Fabric.{Steady, state_of}
-use Rattle.round.proofs.Stays.{steady_handed, hand_more}
+use Rattle.net.specs.declared.plan.Plan.{Plan}
+use Rattle.round.specs.Fabric.{net_at, state_of}
+use Rattle.round.proofs.Stays.{hand_more}
 use Rattle.round.proofs.fabric.Fabric.hand_all.Goals as goal
 
 pub loop-c-init : goal.loop-c-init
 unfolding all_handed
-loop-c-init c = (refl, c.requires.fitted, let r = c.requires.room in omega arith)
-
-pub hand_over-requires : goal.hand_over-requires
-hand_over-requires c =
-    let p = c.args.plan.now in
-    record {
-      fitted = c.loop-c.invariant.1;
-      steady = subst (λ (s : State). Steady (net_of p.layout) s) (sym c.loop-c.invariant.0)
-          (steady_handed (net_of p.layout) (plan_good p) (state_of c.args.self.now) c.requires.steady c.loop-c.c (omega arith));
-      within = omega arith;
-      room = let r = c.loop-c.invariant.2 in omega arith;
-    }
+loop-c-init c = record { after = refl; plan = refl; room = omega arith }
 
 pub loop-c-preserved : goal.loop-c-preserved
 loop-c-preserved c =
-    let z = net_of c.args.plan.now.layout in (
-      c.hand_over.ensures.after ∙ ap (handed_over z c.loop-c.c) c.loop-c.invariant.0 ∙ hand_more z c.loop-c.c (state_of c.args.self.now),
-      c.hand_over.ensures.fitted,
-      let r = c.loop-c.invariant.2 in let l = c.hand_over.ensures.len in let k = c.hand_over.ensures.cap in omega arith,
-    )
+    let f = c.args.self.now in
+    let i = c.loop-c.invariant in
+    let k = ap (λ (p : Plan). p.layout.links) i.plan in
+    let d = ap (λ (p : Plan). p.layout.doors) i.plan in
+    record {
+      after = c.hand_over.ensures.after ∙
+          ap (λ (p : Plan). handed_over (net_of p.layout) c.loop-c.c (state_of c.loop-c.self)) i.plan ∙
+          ap (handed_over (net_at f) c.loop-c.c) i.after ∙ hand_more (net_at f) c.loop-c.c (state_of f);
+      plan = c.hand_over.ensures.plan ∙ i.plan;
+      room = omega arith;
+    }

@@ -1,28 +1,30 @@
-use Rattle.std.proofs.Common.{◌≡◌, map, length, vec_items, deque_items, sym, ◌∙◌, arith}
-use Rattle.std.proofs.lemmas.List.{length-map}
-use Rattle.net.specs.Layout.{net_of}
-use Rattle.store.specs.Store.{items}
-use Rattle.round.specs.Fabric.{frees}
-use Rattle.round.proofs.States.{let_in}
+use Rattle.std.proofs.Common.{◌+◌, ◌<◌, List, [], length, vec_items, deque_items, refl, sym, ap, ◌∙◌, arith}
+use Rattle.std.proofs.Math.Seq.{map-set_same}
+use Rattle.std.proofs.lemmas.List.{length-map, map-set}
+use Rattle.std.proofs.lemmas.Result.{err_from_is_err_and}
+use Rattle.net.specs.declared.Block.{Block}
+use Rattle.round.specs.Fabric.{listed, net_at, waiting}
+use Rattle.round.proofs.Places.{mapped_read}
+use Rattle.round.proofs.States.{door_more}
 use Rattle.round.proofs.fabric.Fabric.let_in.Goals as goal
 
-pub returns : goal.returns
-returns c =
+pub returns-in_err-push_back-clause-after : goal.returns-in_err-push_back-clause-after
+returns-in_err-push_back-clause-after c =
     let f = c.args.self.now in
-    let l = c.args.plan.now.layout in
-    let ls = map items (vec_items f.links) in
-    let bs = map deque_items (vec_items f.doors) in
-    let n : l.links ≡ length ls = sym c.requires.fitted.links ∙ f.links.ok.0 ∙ sym (length-map (vec_items f.links) items) in
-    let m : length bs ≡ l.doors = length-map (vec_items f.doors) deque_items ∙ sym f.doors.ok.0 ∙ c.requires.fitted.doors in
-    let d = c.requires.door in
-    record {
-      after = let_in (net_of l) c.args.block ls bs (frees f) (vec_items f.turns) (vec_items f.came) f.rounds c.push_door.result
-          (map deque_items (vec_items c.push_door.new.doors)) c.push_door.ensures.after n (omega arith);
-      fitted = record {
-        links = c.requires.fitted.links;
-        doors = c.push_door.ensures.len ∙ c.requires.fitted.doors;
-        credits = c.requires.fitted.credits;
-        turns = c.requires.fitted.turns;
-        sizes = c.requires.fitted.sizes;
-      };
-    }
+    let p = err_from_is_err_and c.from_residual.result c.from_residual.ensures.1 in
+    rw p.1
+    (ap (λ (w : List (List Block)). listed (vec_items f.links) w (vec_items f.came) f.rounds)
+    (map-set_same deque_items (vec_items f.doors) c.args.block.door c.push_back.new.self c.index_mut.result.now
+    (c.in_err-push_back.ensures.items ∙ ap deque_items c.index_mut.ensures.value)))
+
+pub returns-clause-after : goal.returns-clause-after
+returns-clause-after c =
+    let f = c.args.self.now in
+    let k = f.links.ok.0 in
+    let d = f.doors.ok.0 in
+    let x = c.index_mut.result.now in
+    let j = c.args.block.door in
+    let h : j < length (vec_items f.doors) = omega arith in
+    ap (λ (w : List (List Block)). listed (vec_items f.links) w (vec_items f.came) f.rounds) (map-set deque_items (vec_items f.doors) j c.push_back.new.self) ∙
+    door_more (net_at f) (vec_items f.links) (waiting f) (vec_items f.came) f.rounds (f.plan.layout.links + j) j (omega arith) refl (simp length-map h)
+    c.args.block x.items c.push_back.new.self.items (sym (mapped_read deque_items (vec_items f.doors) j x [] h c.index_mut.ensures.value)) c.in_ok-push_back.ensures.items refl

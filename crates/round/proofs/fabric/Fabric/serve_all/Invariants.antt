@@ -1,10 +1,11 @@
-use Rattle.std.proofs.Common.{◌≡◌, take, vec_items}
-use Rattle.net.specs.Layout.{net_of}
+use Rattle.std.proofs.Common.{◌≡◌, take}
 use Rattle.machine.specs.Round.{all_served}
-use Rattle.round.specs.Fabric.{Fitted, state_of}
+use Rattle.net.specs.Order.{serving}
+use Rattle.round.specs.Fabric.{net_at, state_of}
 use Rattle.round.proofs.fabric.Fabric.serve_all.Given as goal
 
-abbrev pub invariant-loop-e : goal.invariant-loop-e
-invariant-loop-e l =
-    (state_of l.self ≡ all_served (net_of l.plan.layout) (take l.e-index (vec_items l.plan.order)) (state_of l.initial.self)) ×
-    Fitted l.plan.layout l.self
+abbrev pub invariant-loop-i : goal.invariant-loop-i
+invariant-loop-i l = record {
+  after : state_of l.self ≡ all_served (net_at l.initial.self) (take l.i (serving (net_at l.initial.self))) (state_of l.initial.self);
+  plan : l.self.plan ≡ l.initial.self.plan;
+}

@@ -8,7 +8,7 @@ use Rattle.store.proofs.store.Store.push.Goals as goal
 pub returns-then-self-eq-SIZE : goal.returns-then-self-eq-SIZE
 returns-then-self-eq-SIZE c =
     let e = items_count c.args.self.now in
-    record { taken = sym (le-ltb _ 32 (omega arith)); after = refl }
+    record { taken = sym (le-ltb _ 32 (omega arith)); after = refl; value_returned = refl }
 
 pub returns : goal.returns
 unfolding items
@@ -18,4 +18,5 @@ returns c =
     record {
       taken = sym (lt-ltb _ 32 (omega arith));
       after = ring_push s.blocks s.first s.count _ c.args.b s.whole s.starts (omega arith) refl;
+      value_returned = tt;
     }

@@ -1,4 +1,4 @@
-use Rattle.std.proofs.Common.{◌≡◌, List, map, length, vec_items, ap, ◌∙◌}
+use Rattle.std.proofs.Common.{List, map, length, vec_items, ap, ◌∙◌}
 use Rattle.graph.specs.declared.link.Link.{Link}
 use Rattle.tree.specs.Listed.{way_by}
 use Rattle.tree.proofs.Listed.{links_all, ways_are}

@@ -1,0 +1,2 @@
+-- The definitions of this crate. Assumes nothing.
+pub mod Failures

@@ -1,6 +1,0 @@
-use Rattle.std.proofs.Common.{◌≡◌, take, vec_items}
-use Rattle.graph.specs.Cables.{links_of}
-use Rattle.graph.proofs.linking.links_of.Given as goal
-
-abbrev pub invariant-loop-cable : goal.invariant-loop-cable
-invariant-loop-cable l = vec_items l.links ≡ links_of (take l.cable-index l.cables)

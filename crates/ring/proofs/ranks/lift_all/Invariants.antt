@@ -1,7 +1,0 @@
--- What the loop of `lift_all` keeps: the rows so far rise, or something was raised. Assumes nothing.
-use Rattle.ring.specs.Ranks.{Below, Lifted}
-use Rattle.ring.specs.Table.{Hands}
-use Rattle.ring.proofs.ranks.lift_all.Given as goal
-
-abbrev pub invariant-loop-c : goal.invariant-loop-c
-invariant-loop-c l = Lifted (Hands l.table l.m) (Below l.table l.m l.c) l.initial.ranks l.ranks l.raised

@@ -1,7 +1,0 @@
-use Rattle.std.proofs.Common.{◌≡◌, ◌++◌, string_bytes}
-use Rattle.text.specs.Texts.{below}
-use Rattle.text.specs.Laid.{link_one}
-use Rattle.text.proofs.hall.links.Given as goal
-
-abbrev pub invariant-loop-channel : goal.invariant-loop-channel
-invariant-loop-channel l = string_bytes l.text ≡ string_bytes l.initial.text ++ below (link_one l.hall) l.channel

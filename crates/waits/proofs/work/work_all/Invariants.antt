@@ -1,7 +1,0 @@
-use Rattle.std.proofs.Common.{ℕ, ◌<◌, get_or}
-use Rattle.net.specs.Layout.{net_of}
-use Rattle.waits.specs.Working.{Partly}
-use Rattle.waits.proofs.work.work_all.Given as goal
-
-abbrev pub invariant-loop-c : goal.invariant-loop-c
-invariant-loop-c l = Partly (net_of l.plan.layout) l.found × ((d : ℕ) → d < l.c → 0 < get_or l.found d 0)

@@ -1,0 +1,29 @@
+ghost use Rattle.std.specs.Prelude.{◌≡◌, ◌<◌};
+
+// How many channels feed a link, and which of them was counted last: one that sends the blocks of many places over the
+// link feeds it once.
+#[derive(Clone, Copy)]
+pub(crate) struct Feeders {
+    pub(crate) number: u64,
+    last: Option<usize>,
+}
+
+impl Feeders {
+    ghost use Rattle.waits.specs.Feeding.{with};
+
+    pub(crate) const NONE: Feeders = Feeders {
+        number: 0,
+        last: None,
+    };
+
+    // Counts a channel, unless it is the one that was counted last.
+    pub(crate) fn count(&mut self, channel: usize)
+        requires { self.old.number < 65536 }
+        ensures { self.new ≡ with channel self.old }
+    {
+        if self.last != Some(channel) {
+            self.number += 1;
+            self.last = Some(channel);
+        }
+    }
+}
