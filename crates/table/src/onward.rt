@@ -1,7 +1,7 @@
 ghost use Rattle.std.specs.Prelude.{◌≡◌, ℕ, ◌+◌, ◌<◌, length, slice_index_or, IfOk};
 ghost use Rattle.net.specs.declared.Entry.TheVariants.{Here};
 ghost use Rattle.table.specs.Cells.{state_of};
-ghost use Rattle.table.specs.Kept.{start, whole};
+ghost use Rattle.table.specs.Kept.{channels, start, whole};
 ghost use Rattle.table.specs.Swept.{swept_graph, swept_up};
 
 use crate::sweep::{Onward, Sweep};
@@ -28,7 +28,7 @@ impl<'a> Onward<'a> {
 
     // The index of the state after channel c.
     fn state_after(&self, c: usize) -> usize
-        requires { c < (swept_graph self.now.swept).links + (swept_graph self.now.swept).n }
+        requires { c < channels (swept_graph self.now.swept) }
         ensures state { state_of (swept_graph self.now.swept).n result ≡ start (swept_graph self.now.swept) (swept_up self.now.swept) c }
         ensures inside { result < (swept_graph self.now.swept).n + (swept_graph self.now.swept).n }
     {
@@ -45,7 +45,7 @@ impl<'a> Onward<'a> {
 
     // How blocks go on from channel c, to each place.
     pub(crate) fn row(&self, c: usize) -> &[Entry]
-        requires { c < (swept_graph self.now.swept).links + (swept_graph self.now.swept).n }
+        requires { c < channels (swept_graph self.now.swept) }
         ensures size { length result.now ≡ (swept_graph self.now.swept).n }
         ensures cells { (p : ℕ) → p < (swept_graph self.now.swept).n → slice_index_or result.now p Here ≡ whole (swept_graph self.now.swept) (swept_up self.now.swept) c p }
     {
