@@ -1,12 +1,12 @@
 -- The things are read one after another, and then the file ends. Assumes nothing.
-use Rattle.std.proofs.Common.{◌≡◌, ℕ, ◌+◌, ◌*◌, ◌/◌, min, ◌<◌, List, [], ◌∷◌, ◌++◌, length, get_or, take, vec_items, Ok, Err, Result, sym, refl, ap, ◌∙◌, arith}
+use Rattle.std.proofs.Common.{◌≡◌, ◌+◌, ◌*◌, ◌/◌, min, ◌<◌, [], ◌∷◌, length, get_or, vec_items, Ok, Err, sym, refl, ◌∙◌, arith}
 use Rattle.std.proofs.lemmas.List.{length-append}
 use Rattle.std.proofs.lemmas.Slice.{pushed}
 use Rattle.std.proofs.lemmas.Result.{err_from_is_err_and}
 use Rattle.std.proofs.lemmas.Iterator.{YieldsList-from_slice, YieldsList-from_take}
 use Rattle.std.proofs.lemmas.Iterator.Consumers.{YieldsList-turn, YieldsList-end}
 use Rattle.wire.specs.Pairs.{placed}
-use Rattle.wire.proofs.Rows.{chunks, length_taken, Reading, turn_more, turn_stops, reading_grown, reading_cut, reading_all, reading_extra}
+use Rattle.wire.proofs.Rows.{chunks, length_taken, turn_more, turn_stops, reading_grown, reading_cut, reading_extra}
 use Rattle.wire.proofs.file.things.Goals as goal
 
 pub returns-in_err-thing_at : goal.returns-in_err-thing_at
