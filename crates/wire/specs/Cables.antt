@@ -1,5 +1,5 @@
 -- Lists of cables: the file 1, n, m, count (2), then two switches for each cable. Assumes nothing.
-use Rattle.std.specs.Prelude.{◌≡◌, ℕ, ◌/◌, ◌%◌, ◌<◌, ◌≤◌, cond, List, ◌∷◌, length, Ok, Err, vec_items, Result, ◌==◌, nat_le, nat_lt, slice_index}
+use Rattle.std.specs.Prelude.{ℕ, ◌/◌, ◌%◌, ◌<◌, ◌≤◌, cond, List, ◌∷◌, length, Ok, Err, vec_items, Result, ◌==◌, nat_le, nat_lt, slice_index}
 use Rattle.net.specs.Cables.{Joins}
 use Rattle.net.specs.declared.Cable.{Cable}
 use Rattle.wire.specs.declared.cables.CableList.{CableList}
