@@ -1,12 +1,11 @@
 -- The links of a list of cables: there are two for each, there_and_back between switches that are there, and one goes back where the other came from. Assumes nothing.
-use Rattle.std.proofs.Common.{◌≡◌, ℕ, zero, suc, ◌+◌, ◌-◌, ◌*◌, ◌%◌, ◌<◌, ◌≤◌, eqb, List, [], ◌∷◌, ◌++◌, map, length, get_or, take, sym, refl, ap, ◌∙◌, subst, ⊎_elim, arith}
+use Rattle.std.proofs.Common.{◌≡◌, ℕ, zero, suc, ◌+◌, ◌-◌, ◌*◌, ◌%◌, ◌<◌, ◌≤◌, eqb, List, [], ◌∷◌, map, length, get_or, sym, refl, ap, ◌∙◌, subst, ⊎_elim, arith}
 use Rattle.std.proofs.lemmas.Bool.{cases_eq, cases_lt, cond-true, cond-false, eq-eqb, ne_eqb}
 use Rattle.std.proofs.Math.ListN.{get_or-map, length-map}
-use Rattle.std.proofs.lemmas.List.{flat_map_more, take_more}
 use Rattle.net.specs.declared.Cable.{Cable}
 use Rattle.graph.specs.declared.link.Link.{Link}
 use Rattle.graph.specs.Graph.{TwoWay, Ends, partner, graph_by, graph_with, no_link}
-use Rattle.graph.specs.Cables.{froms, tos, graph_of, there_and_back, links_of}
+use Rattle.graph.specs.Cables.{froms, tos, graph_of, links_of}
 use Rattle.graph.specs.Layers.{Linked}
 use Rattle.graph.specs.Refusal.{Fine, no_cable}
 

@@ -30,6 +30,7 @@ invariant_of-result c =
 pub returns : goal.returns
 returns c =
     let n = c.args.switches in
-    let e = c.in_ok-start.ensures.0 ∙ ap (graph_with n) (c.deref.ensures.value ∙ c.in_ok-links.ensures) ∙ graph_links n c.args.cables.now in
+    let l = ap (graph_with n) c.in_ok-links.ensures ∙ graph_links n c.args.cables.now in
+    let e = c.in_ok-start.ensures.0 ∙ ap (graph_with n) c.deref.ensures.value ∙ l in
     let h = subst (λ (g : Graph). (c.in_ok-root.root ≡ root g) × (c.in_ok-root.root < g.n) × Joined g) e c.in_ok-root.ensures in
-    record { fine = c.in_ok-check.ensures; switches = refl; links = c.in_ok-links.ensures; root = h.0; joined = h.2 }
+    record { fine = c.in_ok-check.ensures; switches = refl; links = c.in_ok-links.ensures; graph = l; root = h.0; joined = h.2 }
