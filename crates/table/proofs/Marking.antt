@@ -3,7 +3,6 @@ use Rattle.std.proofs.Common.{◌≡◌, ℕ, ◌+◌, ◌*◌, ◌%◌, ◌^◌
 use lib.Bits.{bit_or}
 use Rattle.std.proofs.lemmas.List.{get_or-set_same, get_or-set_other}
 use Rattle.std.proofs.lemmas.Bool.{eqb-true, eq-eqb, ne_eqb, cases_Bool, cases_eq, and_parts, and_from, and_left, or_cases, or_left, or_right, both_ways}
-use Rattle.net.specs.declared.Entry.{Entry}
 use Rattle.net.specs.declared.Entry.TheVariants.{Here, Link}
 use Rattle.roads.specs.Roads.{shortest}
 use Rattle.graph.specs.Graph.{Graph}
@@ -12,10 +11,7 @@ use Rattle.graph.proofs.Bits.{has_or, has_shl}
 use Rattle.tree.specs.Legal.{legal, stands}
 use Rattle.table.specs.Kept.{most, start, whole, met}
 use Rattle.table.specs.Marked.{marked, OnlyMet, Closed, Opened, More, Walks}
-use Rattle.table.proofs.Follow.{Comes, same, by, comes_on, not_both, link_is, met_comes, comes_met}
-
-linked : (e : Entry) (d k : ℕ) → e ≡ Link d → e ≡ Link k → d ≡ k
-linked e d k p q = cc
+use Rattle.table.proofs.Follow.{Comes, same, by, comes_on, linked, not_both, link_is, met_comes, comes_met}
 
 -- the link that an entry names is there
 pub there_of : (g : Graph) (up : ℕ → Bool) (p c k : ℕ) (ms : List ℕ) → whole g up c p ≡ Link k → length ms ≡ g.links → k < length ms

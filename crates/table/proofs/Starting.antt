@@ -17,9 +17,9 @@ pub record Started (n : ℕ) (ss : List State) (k : ℕ) : Type 0 where
   pub own : (i t : ℕ) → i < k → has (reached_at ss i) t ≡ eqb (state_of n i).1 t
   pub here : (i p : ℕ) → cell_at ss i p ≡ Here
 
--- entries that say here, wherever they are read
-pub all_here : (k i : ℕ) → get_or (replicate k Here) i Here ≡ Here
-all_here k i = ⊎_elim (λ (l : i < k). get_or-replicate k i Here Here l) (λ l. get_or_past (replicate k Here) i Here (let z = length-replicate k Here in omega arith)) (cases_lt i k)
+-- one value over and over, wherever it is read
+pub all_same : {X : Type 0} (k i : ℕ) (d : X) → get_or (replicate k d) i d ≡ d
+all_same k i d = ⊎_elim (λ (l : i < k). get_or-replicate k i d d l) (λ l. get_or_past (replicate k d) i d (let z = length-replicate k d in omega arith)) (cases_lt i k)
 
 -- the switch of state i
 own_switch : (n i : ℕ) → 0 < n → i < n + n → i % n ≡ (state_of n i).1
@@ -54,12 +54,8 @@ started_more n i ss ss' v p l e r w h = subst (λ (xs : List State). Started n x
 
     here : (m q : ℕ) → cell_at (ss ++ v ∷ []) m q ≡ Here
     here m q = ⊎_elim
-        (λ (z : m ≡ i). subst (λ (j : ℕ). cell_at (ss ++ v ∷ []) j q ≡ Here) (sym z) (ap (λ (es : List Entry). get_or es q Here) (new (λ s. vec_items s.row) [] ∙ w) ∙ all_here n q))
+        (λ (z : m ≡ i). subst (λ (j : ℕ). cell_at (ss ++ v ∷ []) j q ≡ Here) (sym z) (ap (λ (es : List Entry). get_or es q Here) (new (λ s. vec_items s.row) [] ∙ w) ∙ all_same n q Here))
         (λ ne. ⊎_elim
         (λ (o : m < i). ap (λ (es : List Entry). get_or es q Here) (old (λ s. vec_items s.row) [] m o) ∙ h.here m q)
         (λ o. ap (λ (es : List Entry). get_or es q Here) (past (λ s. vec_items s.row) [] m (omega arith)))
         (cases_lt m i)) (cases_eq m i)
-
--- and numbers that are 0
-pub all_zero : (k i : ℕ) → get_or (replicate {A = ℕ} k 0) i 0 ≡ 0
-all_zero k i = ⊎_elim (λ (l : i < k). get_or-replicate k i 0 0 l) (λ l. get_or_past (replicate {A = ℕ} k 0) i 0 (let z = length-replicate {A = ℕ} k 0 in omega arith)) (cases_lt i k)

@@ -23,7 +23,7 @@ fn fill_row(row: &mut [Entry], onward: &[Entry], met: u64)
     }
 }
 
-impl<'a> Onward<'a> {
+impl Onward<'_> {
     // Lends the row of channel c on to be filled. To a door blocks for all places come.
     fn fill_channel(&self, met: &[u64], table: &mut [Entry], c: usize)
         requires met { AllMet (swept_graph self.now.swept) (swept_up self.now.swept) met.now }
