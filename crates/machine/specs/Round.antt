@@ -33,22 +33,13 @@ following z c = cond (nat_lt (c + 1) (channels z)) (c + 1) 0
 
 -- a block from outside is put behind what waits at its door
 abbrev pub enter : Net → Block → State → State
-enter z b s = record {
-  queue = at (z.links + b.door) (s.queue (z.links + b.door) ++ (b ∷ [])) s.queue;
-  free = s.free;
-  turn = s.turn;
-  came = s.came;
-  round = s.round;
-}
+enter z b s = record s { queue = at (z.links + b.door) (s.queue (z.links + b.door) ++ (b ∷ [])) s.queue }
 
 -- the first block leaves channel c; if c is a link, the word that a place is free comes to its near end at once
 abbrev pub leave : Net → ℕ → State → State
-leave z c s = record {
+leave z c s = record s {
   queue = at c (tail_of (s.queue c)) s.queue;
   free = cond (nat_lt c z.links) (at c (s.free c + 1) s.free) s.free;
-  turn = s.turn;
-  came = s.came;
-  round = s.round;
 }
 
 -- the first block of channel c has come
@@ -67,13 +58,7 @@ noted c r (b ∷ bs) = record { block = b; channel = c; round = r } ∷ []
 
 -- channel c hands over its first block
 abbrev pub deliver : Net → ℕ → State → State
-deliver z c s = let t = leave z c s in record {
-  queue = t.queue;
-  free = t.free;
-  turn = t.turn;
-  came = s.came ++ noted c s.round (s.queue c);
-  round = s.round;
-}
+deliver z c s = record (leave z c s) { came = s.came ++ noted c s.round (s.queue c) }
 
 abbrev pub handed_over : Net → ℕ → State → State
 handed_over z c s = cond (comes z c (s.queue c)) (deliver z c s) s
@@ -90,12 +75,10 @@ look z e q c (suc k) = cond (wants z e c (q c)) (Some c) (look z e q (following 
 
 -- the first block of c goes over link e into its store; the turn is then at the channel after c
 abbrev pub move : Net → ℕ → ℕ → State → State
-move z e c s = let t = leave z c s in record {
+move z e c s = let t = leave z c s in record t {
   queue = at e (t.queue e ++ firsts (s.queue c)) t.queue;
   free = at e (pred (t.free e)) t.free;
   turn = at e (following z c) s.turn;
-  came = s.came;
-  round = s.round;
 }
 
 abbrev pub take : Net → ℕ → Option ℕ → State → State
@@ -111,7 +94,7 @@ all_served z [] s = s
 all_served z (e ∷ es) s = all_served z es (serve z e s)
 
 abbrev pub counted : State → State
-counted s = record { queue = s.queue; free = s.free; turn = s.turn; came = s.came; round = s.round + 1 }
+counted s = record s { round = s.round + 1 }
 
 abbrev pub round : Net → State → State
 round z s = all_served z (serving z) (all_handed z (channels z) (counted s))

@@ -1,6 +1,7 @@
 // The words that every crate shares: a block, an entry of a forwarding table, what came; how a net is wired, and a plan
 // of it, which is a layout that was checked, with the order in which links are served. In specs/ stand the model of a
-// net and what makes it good; the theorem is that a plan's net is good and that its order is the order of serving.
+// net and what makes it good; the theorem is that a plan's net is good and that its order is the order of serving. And
+// the search of a table, row by row, for the first cell that a test picks.
 #![tactic(auto)]
 
 mod check;
@@ -10,6 +11,7 @@ mod layout;
 pub mod limits;
 mod plan;
 mod planning;
+mod rows;
 mod serving;
 
 pub use error::PlanError;

@@ -32,7 +32,8 @@ impl<T: Drop> From<AllocFailed<T>> for OrderError {
 }
 
 // The order in which the links below `links` are served, link k being of rank `ranks[k]`: highest rank first,
-// among equals the lower number.
+// among equals the lower number. Link by link, as the definition has it: a sort of the library would ask for a key that
+// every number has, and not only those that have a rank.
 pub fn serving_order(heap: Global, ranks: &[u32], links: usize) -> Result<Vec<u16>, OrderError>
     ensures refused { is_too_many result ≡ (nat_lt (length ranks.now) links || nat_lt 65536 links) }
     ensures ordered { IfOk result (λ v. v.items ≡ order (rank_of ranks.now) links) }

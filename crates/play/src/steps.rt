@@ -19,7 +19,7 @@ impl<'a> Play<'a> {
         ensures kept { IfOk result OnCourse }
     {
         let hall = Hall::lay(heap, cables)?;
-        let game = Game::new(heap, hall.into_plan()).map_err(|_| WireError::Memory)?;
+        let game = Game::new(heap, hall.into_plan())?;
         Ok(Play {
             cables,
             script,
@@ -43,7 +43,7 @@ impl<'a> Play<'a> {
         if let Some(fault) = self.game.fault(thing) {
             return Err(WireError::Refused(fault.at(at)));
         }
-        self.game.take(thing).map_err(|_| WireError::Memory)?;
+        self.game.take(thing)?;
         self.at = to;
         Ok(Some(thing))
     }

@@ -4,7 +4,7 @@ ghost use Rattle.std.specs.Prelude.{◌≡◌};
 use wire::WireError;
 
 // Why a script was not played to its end: its own fault or want of memory, or what happened where it was told.
-#[derive(Drop)]
+#[derive(Debug, Drop)]
 pub enum Stop<E> {
     Script(WireError),
     Told(E),

@@ -1,15 +1,15 @@
 -- The square of who hands blocks to whom, mark by mark. Assumes nothing.
-use Rattle.std.proofs.Common.{◌≡◌, ℕ, zero, suc, ◌+◌, ◌*◌, ◌<◌, ◌≤◌, Bool, true, false, ◌⊎◌, List, length, get_or, set, replicate, vec_items, sym, refl, ap, ◌∙◌, subst, inl, inr, ⊎_elim, mul-le-mul_right, arith}
+use Rattle.std.proofs.Common.{◌≡◌, ℕ, ◌+◌, ◌*◌, ◌<◌, ◌≤◌, Bool, true, false, ◌⊎◌, List, length, get_or, set, vec_items, sym, ap, ◌∙◌, subst, inl, inr, ⊎_elim, mul-le-mul_right, arith}
 use Rattle.std.proofs.lemmas.Nat.{mul-add-lt}
 use Rattle.std.proofs.lemmas.List.{get_or-set_same, get_or-set_other}
-use Rattle.std.proofs.lemmas.Bool.{cases_eq, cases_lt, cases_order, both_ways, ltb-true}
+use Rattle.std.proofs.lemmas.Bool.{cases_eq, cases_lt, cases_order, ltb-true}
 use Rattle.net.specs.declared.Entry.{Entry}
 use Rattle.net.specs.declared.Entry.TheVariants.{Here, Link}
 use Rattle.net.specs.Layout.{entry_at}
 use Rattle.ring.specs.declared.dependencies.Dependencies.{Dependencies}
 use Rattle.ring.specs.Graph.{Agrees}
 use Rattle.ring.specs.Layers.{Feeds}
-use Rattle.ring.specs.Table.{Hands, InRange, IsRow, Marked, marked_by, names}
+use Rattle.ring.specs.Table.{Hands, InRange, IsRow, Marked, names}
 use Rattle.ring.proofs.Outside.{hands_from}
 
 -- a place of the square has one row and one column
@@ -24,13 +24,6 @@ row_column n x y e c h g q = ⊎_elim same (λ o. ⊎_elim less more o) (cases_o
 
     more : e < x → (x ≡ e) × (y ≡ c)
     more l = let r : (e + 1) * n ≤ x * n = mul-le-mul_right n (let k : e + 1 ≤ x = omega arith in k) in absurd (omega arith)
-
-pub none_marked : (es : List Entry) (n m : ℕ) (rows : List Bool) → ((i : ℕ) → get_or rows i false ≡ false) → Marked es n m 0 0 rows
-none_marked es n m rows z =
-    record {
-      only = λ y x f. absurd (both_ways (get_or rows (x * n + y) false) (z (x * n + y)) f.2);
-      each = λ y q x o. ⊎_elim (λ (h : y < 0). absurd (omega arith)) (λ (h : (y ≡ 0) × (q < 0)). let k = h.1 in absurd (omega arith)) o;
-    }
 
 -- one mark more
 module _ (es : List Entry) (n m c p : ℕ) (rows : List Bool) (z : length rows ≡ n * n) (l : c < n) (s : Marked es n m c p rows) where
@@ -70,8 +63,8 @@ module _ (es : List Entry) (n m c p : ℕ) (rows : List Bool) (z : length rows �
       ⊎_elim (λ (g : q ≡ p). inr (h.0, g)) (λ (g : q ≡ p → ⊥). let lt : q < p = ⊎_elim (λ (i : q < p). i) (λ (i : p ≤ q). absurd (g (omega arith))) (cases_lt q p) in inl (inr (h.0, lt))) (cases_eq q p))
       o
 
-  pub marked_more : (x : Entry) → p < m → x ≡ entry_at es m c p → names n x ≡ true → Marked es n m c (p + 1) (marked_by n c x rows)
-  marked_more Here pm q t =
+  here_more : p < m → Here ≡ entry_at es m c p → Marked es n m c (p + 1) rows
+  here_more pm q =
       record {
         only = s.only;
         each = λ y r x o h g. ⊎_elim (λ a. s.each y r x a h g)
@@ -80,22 +73,21 @@ module _ (es : List Entry) (n m c p : ℕ) (rows : List Bool) (z : length rows �
             absurd (no_link x (q ∙ w)))
             (earlier y r o);
       }
-  marked_more (Link e) pm q t = with_link (ltb-true e n t)
-    where
-      with_link : e < n → Marked es n m c (p + 1) (set rows (e * n + c) true)
-      with_link h =
-          record {
-            only = λ y x f. ⊎_elim
-                (λ (a : (x ≡ e) × (y ≡ c)). subst (λ (i : ℕ). Hands es m y i) (sym a.0) (subst (λ (i : ℕ). Hands es m i e) (sym a.1) (p, pm, sym q)))
-                (λ a. s.only y x a)
-                (was e y x f);
-            each = λ y r x o g k. ⊎_elim (λ a. kept e y x (s.each y r x a g k) h)
-                (λ (a : (y ≡ c) × (r ≡ p)).
-                let w : entry_at es m c p ≡ Link x = subst (λ (i : ℕ). entry_at es m i p ≡ Link x) a.0 (subst (λ (i : ℕ). entry_at es m y i ≡ Link x) a.1 k) in
-                let v : e ≡ x = link_same e x (q ∙ w) in
-                subst (λ (i : ℕ). Feeds (set rows (e * n + c) true) n y i) v (subst (λ (i : ℕ). Feeds (set rows (e * n + c) true) n i e) (sym a.0) (new e h)))
-                (earlier y r o);
-          }
+
+  link_more : (e : ℕ) → p < m → Link e ≡ entry_at es m c p → e < n → Marked es n m c (p + 1) (set rows (e * n + c) true)
+  link_more e pm q h =
+      record {
+        only = λ y x f. ⊎_elim
+            (λ (a : (x ≡ e) × (y ≡ c)). subst (λ (i : ℕ). Hands es m y i) (sym a.0) (subst (λ (i : ℕ). Hands es m i e) (sym a.1) (p, pm, sym q)))
+            (λ a. s.only y x a)
+            (was e y x f);
+        each = λ y r x o g k. ⊎_elim (λ a. kept e y x (s.each y r x a g k) h)
+            (λ (a : (y ≡ c) × (r ≡ p)).
+            let w : entry_at es m c p ≡ Link x = subst (λ (i : ℕ). entry_at es m i p ≡ Link x) a.0 (subst (λ (i : ℕ). entry_at es m y i ≡ Link x) a.1 k) in
+            let v : e ≡ x = link_same e x (q ∙ w) in
+            subst (λ (i : ℕ). Feeds (set rows (e * n + c) true) n y i) v (subst (λ (i : ℕ). Feeds (set rows (e * n + c) true) n i e) (sym a.0) (new e h)))
+            (earlier y r o);
+      }
 
 -- one entry of a row more, which names a channel
 pub mark_link : (es : List Entry) (n m c p e k : ℕ) (row : List Entry) (rows new : List Bool) → InRange es n m → IsRow es m c row → p < length row → get_or row p Here ≡ Link e → c < n → k ≡ n → length rows ≡ k * k → Marked es n m c p rows → new ≡ set rows (e * k + c) true → Marked es n m c (p + 1) new
@@ -106,31 +98,16 @@ mark_link es n m c p e k row rows new range r h q l same z s is =
     let t : names n (Link e) ≡ true = subst (λ (x : Entry). names n x ≡ true) (sym at) (range c p) in
     let square : length rows ≡ n * n = subst (λ (i : ℕ). length rows ≡ i * i) same z in
     let now : new ≡ set rows (e * n + c) true = subst (λ (i : ℕ). new ≡ set rows (e * i + c) true) same is in
-    subst (λ (xs : List Bool). Marked es n m c (p + 1) xs) (sym now) (marked_more es n m c p rows square l s (Link e) pm at t)
+    subst (λ (xs : List Bool). Marked es n m c (p + 1) xs) (sym now) (link_more es n m c p rows square l s e pm at (ltb-true e n t))
 
 -- one that says here
 pub mark_here : (es : List Entry) (n m c p : ℕ) (row : List Entry) (rows : List Bool) → IsRow es m c row → p < length row → get_or row p Here ≡ Here → c < n → length rows ≡ n * n → Marked es n m c p rows → Marked es n m c (p + 1) rows
 mark_here es n m c p row rows r h q l z s =
     let size = r.size in
     let pm : p < m = omega arith in
-    marked_more es n m c p rows z l s Here pm (sym q ∙ r.entry p pm) refl
-
--- the next row
-pub row_done : (es : List Entry) (n m c : ℕ) (rows : List Bool) → Marked es n m c m rows → Marked es n m (c + 1) 0 rows
-row_done es n m c rows s =
-    record {
-      only = s.only;
-      each = λ y q x o h g. s.each y q x (⊎_elim
-          (λ (k : y < c + 1). ⊎_elim (λ (l : y < c). inl l) (λ (l : c ≤ y). let e : y ≡ c = omega arith in inr (e, h)) (cases_lt y c))
-          (λ (k : (y ≡ c + 1) × (q < 0)). let l = k.1 in absurd (omega arith)) o) h g;
-    }
+    here_more es n m c p rows z l s pm (sym q ∙ r.entry p pm)
 
 pub all_marked : (es : List Entry) (n m : ℕ) (g : Dependencies) → length es ≡ n * m → g.channels ≡ n → Marked es n m n 0 (vec_items g.marks) → Agrees es n m g
 all_marked es n m g z q s =
     let t : Marked es g.channels m n 0 (vec_items g.marks) = subst (λ (i : ℕ). Marked es i m n 0 (vec_items g.marks)) (sym q) s in
     record { channels = q; only = t.only; each = λ y x h. t.each y h.0 x (inl (hands_from es n m y x z h)) h.1 h.2 }
-
-pub all_same : {X : Type 0} (k i : ℕ) (d : X) → get_or (replicate k d) i d ≡ d
-all_same zero i d = refl
-all_same (suc k) zero d = refl
-all_same (suc k) (suc i) d = all_same k i d

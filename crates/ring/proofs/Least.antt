@@ -12,9 +12,6 @@ use Rattle.ring.proofs.Count.{few}
 use Rattle.ring.proofs.Turned.{turned}
 
 module _ (H : ℕ → ℕ → Type 0) (n : ℕ) where
-  pub none_yet : Fewest H n 0 0 (n + 1)
-  none_yet = record { some = omega arith; most = omega arith; least = λ m j h. absurd (omega arith); found = λ h. absurd (omega arith) }
-
   -- the ring of lowest member y is shorter
   pub takes : (y low members : ℕ) (A : List ℕ) → Near H y members A → 0 < get_or A y 0 → get_or A y 0 < members → Fewest H n y low members → Fewest H n (y + 1) y (get_or A y 0)
   takes y low members A a p l f =

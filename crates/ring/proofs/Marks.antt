@@ -1,8 +1,8 @@
 -- Layer by layer the numbers are the distances back: one mark, the marks at one channel, a whole layer. Assumes nothing.
-use Rattle.std.proofs.Common.{◌≡◌, ℕ, zero, suc, ◌+◌, ◌<◌, ◌≤◌, ◌⊎◌, List, [], ◌∷◌, length, get_or, set, sym, refl, ap, ◌∙◌, subst, inl, inr, ⊎_elim, arith, length-set}
+use Rattle.std.proofs.Common.{◌≡◌, ℕ, zero, suc, ◌+◌, ◌<◌, ◌≤◌, Bool, true, false, cond, ◌&&◌, eqb, ◌⊎◌, List, [], ◌∷◌, length, get_or, set, sym, ap, ◌∙◌, subst, inl, inr, ⊎_elim, arith, length-set}
 use Rattle.std.specs.List.{AllByRecursion}
-use Rattle.std.proofs.lemmas.List.{get_or-set_same, get_or-set_other}
-use Rattle.std.proofs.lemmas.Bool.{cases_eq, cases_lt}
+use Rattle.std.proofs.lemmas.List.{get_or-set_same, get_or-set_other, set-get_or}
+use Rattle.std.proofs.lemmas.Bool.{cases_eq, cases_lt, cases_Bool, and_parts, and_cases, eqb-true, eqb-false, cond-true, cond-false, both_ways}
 use Rattle.ring.specs.Ring.{Along}
 use Rattle.ring.specs.Layers.{Back, Near, Spread, Source, Layer}
 
@@ -14,17 +14,11 @@ at_set A y v x h = ⊎_elim
     (cases_eq x y)
 
 module _ (H : ℕ → ℕ → Type 0) (c : ℕ) where
-  pub one_back : (x : ℕ) → c ≤ x → H x c → Back H c x 1
-  one_back x l h = record { over = []; along = h; size = refl; from = l; high = tt }
-
   -- one channel more in front
   pub more_back : (x e k : ℕ) → c ≤ x → H x e → Back H c e k → Back H c x (k + 1)
   more_back x e k l h b =
       let s = b.size in
       record { over = e ∷ b.over; along = (h, b.along); size = omega arith; from = l; high = (b.from, b.high) }
-
-  pub back_some : (x k : ℕ) → Back H c x k → 0 < k
-  back_some x k b = let s = b.size in omega arith
 
   -- the first step of a way back
   pub back_first : (x k : ℕ) → Back H c x (k + 1) → 0 < k → (e : ℕ) × H x e × Back H c e k
@@ -43,14 +37,6 @@ module _ (H : ℕ → ℕ → Type 0) (c : ℕ) where
 
   pub back_at : (x j k : ℕ) → j ≡ k → Back H c x j → Back H c x k
   back_at x j k q b = subst (λ (i : ℕ). Back H c x i) q b
-
-  pub none_near : (A : List ℕ) → ((x : ℕ) → get_or A x 0 ≡ 0) → Near H c 0 A
-  none_near A z =
-      record {
-        some = λ x h. let q = z x in absurd (omega arith);
-        most = λ x. let q = z x in omega arith;
-        least = λ x j b h. let s = b.size in absurd (omega arith);
-      }
 
   pub mark : (k : ℕ) (A : List ℕ) (y : ℕ) → y < length A → get_or A y 0 ≡ 0 → Back H c y (k + 1) → Near H c k A → Near H c k (set A y (k + 1))
   mark k A y h q b n =
@@ -78,52 +64,59 @@ module _ (H : ℕ → ℕ → Type 0) (c : ℕ) where
             (at_set A y (k + 1) x h);
       }
 
-  pub spread_none : (k x : ℕ) (A : List ℕ) → Near H c k A → Spread H c k x c A A
-  spread_none k x A n = record { size = refl; near = n; only = λ z. inl refl; done = λ z l h w. absurd (omega arith) }
+  -- y is looked at; b says whether it hands blocks to x
+  pub spread_more : (k x y : ℕ) (old A : List ℕ) (b : Bool) (v : ℕ) → Source H c x (k + 1) → c ≤ y → y < length A → (b ≡ true → H y x) → (H y x → b ≡ true) → v ≡ cond (b && eqb (get_or A y 0) 0) (k + 1) (get_or A y 0) → Spread H c k x y old A → Spread H c k x (y + 1) old (set A y v)
+  spread_more k x y old A b v src cy h so rev q s = ⊎_elim marked left (cases_Bool (b && eqb (get_or A y 0) 0))
+    where
+      marked : (b && eqb (get_or A y 0) 0) ≡ true → Spread H c k x (y + 1) old (set A y v)
+      marked t =
+          let p = and_parts b (eqb (get_or A y 0) 0) t in
+          let w : v ≡ k + 1 = q ∙ cond-true (b && eqb (get_or A y 0) 0) (k + 1) (get_or A y 0) t in
+          let o : get_or A y 0 ≡ 0 = eqb-true (get_or A y 0) 0 p.1 in
+          let z = s.size in
+          let r : Spread H c k x (y + 1) old (set A y (k + 1)) = record {
+            size = length-set A y (k + 1) ∙ s.size;
+            near = mark k A y h o (src y cy (so p.0)) s.near;
+            only = λ u. ⊎_elim
+                (λ (r : (u ≡ y) × (get_or (set A y (k + 1)) u 0 ≡ k + 1)).
+                let i : get_or A u 0 ≡ get_or A y 0 = ap (λ (i : ℕ). get_or A i 0) r.0 in
+                let was : get_or old u 0 ≡ 0 = ⊎_elim (λ (e : get_or A u 0 ≡ get_or old u 0). omega arith) (λ e. e.0) (s.only u) in
+                inr (was, r.1))
+                (λ (r : (u ≡ y → ⊥) × (get_or (set A y (k + 1)) u 0 ≡ get_or A u 0)).
+                ⊎_elim (λ (e : get_or A u 0 ≡ get_or old u 0). inl (r.1 ∙ e)) (λ (e : (get_or old u 0 ≡ 0) × (get_or A u 0 ≡ k + 1)). inr (e.0, r.1 ∙ e.1)) (s.only u))
+                (at_set A y (k + 1) u h);
+            done = λ u l m w. ⊎_elim
+                (λ (r : (u ≡ y) × (get_or (set A y (k + 1)) u 0 ≡ k + 1)). let e = r.1 in omega arith)
+                (λ (r : (u ≡ y → ⊥) × (get_or (set A y (k + 1)) u 0 ≡ get_or A u 0)).
+                let e = r.1 in
+                let ne : u ≡ y → ⊥ = r.0 in
+                let lt : u < y = ⊎_elim (λ (g : u < y). g) (λ (g : y ≤ u). absurd (ne (omega arith))) (cases_lt u y) in
+                let d = s.done u l lt w in
+                omega arith)
+                (at_set A y (k + 1) u h);
+          } in
+          subst (λ (i : ℕ). Spread H c k x (y + 1) old (set A y i)) (sym w) r
 
-  -- y hands blocks to x, and had no number
-  pub spread_mark : (k x y : ℕ) (old A : List ℕ) → Source H c x (k + 1) → c ≤ y → y < length A → get_or A y 0 ≡ 0 → H y x → Spread H c k x y old A → Spread H c k x (y + 1) old (set A y (k + 1))
-  spread_mark k x y old A src cy h o w s =
-      let z = s.size in
-      record {
-        size = length-set A y (k + 1) ∙ s.size;
-        near = mark k A y h o (src y cy w) s.near;
-        only = λ u. ⊎_elim
-            (λ (r : (u ≡ y) × (get_or (set A y (k + 1)) u 0 ≡ k + 1)).
-            let i : get_or A u 0 ≡ get_or A y 0 = ap (λ (i : ℕ). get_or A i 0) r.0 in
-            let was : get_or old u 0 ≡ 0 = ⊎_elim (λ (e : get_or A u 0 ≡ get_or old u 0). omega arith) (λ e. e.0) (s.only u) in
-            inr (was, r.1))
-            (λ (r : (u ≡ y → ⊥) × (get_or (set A y (k + 1)) u 0 ≡ get_or A u 0)).
-            ⊎_elim (λ (e : get_or A u 0 ≡ get_or old u 0). inl (r.1 ∙ e)) (λ (e : (get_or old u 0 ≡ 0) × (get_or A u 0 ≡ k + 1)). inr (e.0, r.1 ∙ e.1)) (s.only u))
-            (at_set A y (k + 1) u h);
-        done = λ u l m g. ⊎_elim
-            (λ (r : (u ≡ y) × (get_or (set A y (k + 1)) u 0 ≡ k + 1)). let e = r.1 in omega arith)
-            (λ (r : (u ≡ y → ⊥) × (get_or (set A y (k + 1)) u 0 ≡ get_or A u 0)).
-            let e = r.1 in
-            let ne : u ≡ y → ⊥ = r.0 in
-            let lt : u < y = ⊎_elim (λ (g : u < y). g) (λ (g : y ≤ u). absurd (ne (omega arith))) (cases_lt u y) in
-            let d = s.done u l lt g in
-            omega arith)
-            (at_set A y (k + 1) u h);
-      }
-
-  -- y has a number, or hands no blocks to x
-  pub spread_pass : (k x y : ℕ) (old A : List ℕ) → (H y x → 0 < get_or A y 0) → Spread H c k x y old A → Spread H c k x (y + 1) old A
-  spread_pass k x y old A here s =
-      record {
-        size = s.size;
-        near = s.near;
-        only = s.only;
-        done = λ u l m g. ⊎_elim
-            (λ (e : u ≡ y). subst (λ (i : ℕ). 0 < get_or A i 0) (sym e) (here (subst (λ (i : ℕ). H i x) e g)))
-            (λ (e : u ≡ y → ⊥).
-            let lt : u < y = ⊎_elim (λ (g : u < y). g) (λ (g : y ≤ u). absurd (e (omega arith))) (cases_lt u y) in
-            s.done u l lt g)
-            (cases_eq u y);
-      }
-
-  pub layer_none : (k : ℕ) (A : List ℕ) → Near H c k A → Layer H c k c A
-  layer_none k A n = record { near = n; done = λ x z h l. absurd (omega arith) }
+      left : (b && eqb (get_or A y 0) 0) ≡ false → Spread H c k x (y + 1) old (set A y v)
+      left f =
+          let w : v ≡ get_or A y 0 = q ∙ cond-false (b && eqb (get_or A y 0) 0) (k + 1) (get_or A y 0) f in
+          let here : H y x → 0 < get_or A y 0 = λ g.
+          ⊎_elim (λ e. absurd (both_ways b e (rev g)))
+          (λ e. let ne : get_or A y 0 ≡ 0 → ⊥ = eqb-false (get_or A y 0) 0 e in ⊎_elim (λ (g : 0 < get_or A y 0). g) (λ (g : get_or A y 0 ≤ 0). absurd (ne (omega arith))) (cases_lt 0 (get_or A y 0)))
+          (and_cases b (eqb (get_or A y 0) 0) f) in
+          let r : Spread H c k x (y + 1) old A = record {
+            size = s.size;
+            near = s.near;
+            only = s.only;
+            done = λ u l m g. ⊎_elim
+                (λ (e : u ≡ y). subst (λ (i : ℕ). 0 < get_or A i 0) (sym e) (here (subst (λ (i : ℕ). H i x) e g)))
+                (λ (e : u ≡ y → ⊥).
+                let lt : u < y = ⊎_elim (λ (g : u < y). g) (λ (g : y ≤ u). absurd (e (omega arith))) (cases_lt u y) in
+                s.done u l lt g)
+                (cases_eq u y);
+          } in
+          let same : set A y v ≡ A = ap (λ (i : ℕ). set A y i) w ∙ set-get_or A y 0 in
+          subst (λ (B : List ℕ). Spread H c k x (y + 1) old B) (sym same) r
 
   -- a channel of another number is passed over
   pub layer_pass : (k y : ℕ) (A : List ℕ) → (get_or A y 0 ≡ k → ⊥) → Layer H c k y A → Layer H c k (y + 1) A
@@ -182,23 +175,6 @@ module _ (H : ℕ → ℕ → Type 0) (c : ℕ) where
           let f = back_first x k (back_at x j (k + 1) q w) p in
           let r = near_by x f.0 w.from f.1 f.2 in
           (r.0, (let m = r.1 in omega arith))
-
-  -- the first layer
-  pub first_all : (n : ℕ) (old A : List ℕ) → ((z x : ℕ) → H z x → z < n) → Spread H c 0 c n old A → Near H c 1 A
-  first_all n old A b s =
-      record {
-        some = s.near.some;
-        most = λ x. let m = s.near.most x in omega arith;
-        least = λ x j w h.
-            let p = back_some x j w in
-            let q : j ≡ 1 = omega arith in
-            let g = back_last x (back_at x j 1 q w) in
-            let m = s.near.most x in
-            (s.done x w.from (b x c g) g, omega arith);
-      }
-
-  pub first_source : Source H c c 1
-  first_source = λ z l h. one_back z l h
 
   -- where no channel has number k, none has a higher one, and what is known up to k + 1 is known of every layer
   module _ (k : ℕ) (A : List ℕ) (p : 0 < k) (n : Near H c (k + 1) A) (none : (x : ℕ) → get_or A x 0 ≡ k → ⊥) where

@@ -1,5 +1,5 @@
 -- Outside of its rows and columns a table says here. Assumes nothing.
-use Rattle.std.proofs.Common.{◌≡◌, ℕ, ◌+◌, ◌*◌, ◌<◌, ◌≤◌, true, ltb, List, length, get_or, sym, refl, ap, subst, ⊎_elim, mul-le-mul_right, arith}
+use Rattle.std.proofs.Common.{◌≡◌, ℕ, ◌+◌, ◌*◌, ◌<◌, ◌≤◌, true, ltb, List, length, get_or, sym, refl, subst, ⊎_elim, mul-le-mul_right, arith}
 use Rattle.std.proofs.lemmas.List.{get_or_past}
 use Rattle.std.proofs.lemmas.Bool.{cond-false, cond_both, le-ltb, cases_lt, ltb-true}
 use Rattle.net.specs.declared.Entry.{Entry}
@@ -37,9 +37,3 @@ named n e x t q = ltb-true e n (subst (λ (y : Entry). names n y ≡ true) q t)
 
 pub hands_to : (es : List Entry) (n m c e : ℕ) → InRange es n m → Hands es m c e → e < n
 hands_to es n m c e r h = named n e (entry_at es m c h.0) (r c h.0) h.2
-
-pub in_range : (es : List Entry) (n m : ℕ) → length es ≡ n * m → ((c p : ℕ) → c < n → names n (entry_at es m c p) ≡ true) → InRange es n m
-in_range es n m z f c p = ⊎_elim (λ (h : c < n). f c p h) (λ (h : n ≤ c). ap (names n) (past_table es n m c p z h)) (cases_lt c n)
-
-pub in_row : (es : List Entry) (n m c : ℕ) → ((p : ℕ) → p < m → names n (entry_at es m c p) ≡ true) → (p : ℕ) → names n (entry_at es m c p) ≡ true
-in_row es n m c f p = ⊎_elim (λ (h : p < m). f p h) (λ (h : m ≤ p). ap (names n) (past_row es m c p h)) (cases_lt p m)

@@ -1,5 +1,5 @@
 -- A foreign table: its sizes, which of its channels hand blocks to which, and entries that name no channel. Assumes nothing.
-use Rattle.std.specs.Prelude.{◌≡◌, ℕ, ◌+◌, ◌*◌, ◌<◌, ◌≤◌, Bool, true, false, ◌⊎◌, List, length, nat_lt, slice_index_or, slice_set}
+use Rattle.std.specs.Prelude.{◌≡◌, ℕ, ◌*◌, ◌<◌, ◌≤◌, Bool, true, false, ◌⊎◌, List, length, nat_lt, slice_index_or}
 use Rattle.net.specs.declared.Entry.{Entry}
 use Rattle.net.specs.declared.Entry.TheVariants.{Here, Link}
 use Rattle.net.specs.Layout.{entry_at}
@@ -40,11 +40,6 @@ pub record FirstStray (es : List Entry) (n m c p : ℕ) : Type 0 where
   pub channel : c < n
   pub here : FirstInRow es n m c p
   pub earlier : (d q : ℕ) → d < c → names n (entry_at es m d q) ≡ true
-
--- the square with the mark for what one entry of channel c says
-abbrev pub marked_by : ℕ → ℕ → Entry → List Bool → List Bool
-marked_by n c Here rows = rows
-marked_by n c (Link e) rows = slice_set rows (e * n + c) true
 
 -- The square's marks are right, and none is missing for channels below c and for c at places below p.
 pub record Marked (es : List Entry) (n m c p : ℕ) (rows : List Bool) : Type 0 where

@@ -14,7 +14,7 @@ pub(crate) struct Dependencies {
 }
 
 impl Dependencies {
-    ghost use Rattle.ring.specs.Graph.{Agrees, FeedsIn};
+    ghost use Rattle.ring.specs.Graph.{Agrees, AreFeeders, FeedsIn};
     ghost use Rattle.ring.specs.Table.{Marked};
 
     // The graph of a table.
@@ -67,6 +67,14 @@ impl Dependencies {
         requires { (y < self.now.channels) × (x < self.now.channels) }
         ensures { IsTrue result ↔ FeedsIn self.now y x }
     {
-        self.marks[x * self.channels + y]
+        self.feeders(x)[y]
+    }
+
+    // For each channel whether it hands blocks to x.
+    pub(crate) fn feeders(&self, x: usize) -> &[bool]
+        requires { x < self.now.channels }
+        ensures { AreFeeders self.now x result.now }
+    {
+        &self.marks[x * self.channels..(x + 1) * self.channels]
     }
 }

@@ -15,8 +15,8 @@ use Rattle.round.proofs.Places.{at_set, at_here, behind_set, behind_read, mapped
 abbrev pub made : (ℕ → List Block) → (ℕ → ℕ) → (ℕ → ℕ) → List Came → ℕ → State
 made q f t c r = record { queue = q; free = f; turn = t; came = c; round = r }
 
-pub same_made : (q p : ℕ → List Block) (f g t u : ℕ → ℕ) (cs : List Came) (n : ℕ) → q ≡ p → f ≡ g → t ≡ u → made q f t cs n ≡ made p g u cs n
-same_made q p f g t u cs n a b c = cc
+pub same_made : {q p : ℕ → List Block} {f g t u : ℕ → ℕ} (cs : List Came) (n : ℕ) → q ≡ p → f ≡ g → t ≡ u → made q f t cs n ≡ made p g u cs n
+same_made cs n a b c = cc
 
 -- where there is no first block, nothing stands behind it
 none_behind : (q : List Block) → None ≡ head_of q → tail_of q ≡ q
@@ -42,7 +42,7 @@ module _ (ls : List Link) (ds : List (List Block)) (cs : List Came) (n : ℕ) (e
       let hq : e < length (map queue_of ls) = simp length-map h in
       let hf : e < length (map free_of ls) = simp length-map h in
       let ht : e < length (map turn_of ls) = simp length-map h in
-      same_made _ _ _ _ _ _ cs n
+      same_made cs n
       (ap {B = ℕ → List Block} (λ (v : List (List Block)) (a : ℕ). get_or v a [])
       (ap (λ (v : List (List Block)). v ++ ds) (map-set queue_of ls e l) ∙ sym (set-append_left (map queue_of ls) ds e (queue_of l) hq)) ∙
       at_set (map queue_of ls ++ ds) e (queue_of l) [] (simp length-append (omega arith)))
@@ -55,11 +55,11 @@ module _ (ls : List Link) (ds : List (List Block)) (cs : List Came) (n : ℕ) (e
       listed (set ls e l) ds cs n ≡ leaves z e r before
   link_left l z None k r q f t =
       link_set l ∙
-      same_made _ _ _ _ _ _ cs n (at_here e (queue_of l) before.queue (q ∙ none_behind (queue_of x) r ∙ sym queue_read))
+      same_made cs n (at_here e (queue_of l) before.queue (q ∙ none_behind (queue_of x) r ∙ sym queue_read))
       (at_here e (free_of l) before.free (f ∙ sym free_read)) (at_here e (turn_of l) before.turn (t ∙ sym turn_read))
   link_left l z (Some b) k r q f t =
       link_set l ∙
-      same_made _ _ _ _ _ _ cs n (ap (λ (w : List Block). at e w before.queue) (q ∙ ap tail_of (sym queue_read)))
+      same_made cs n (ap (λ (w : List Block). at e w before.queue) (q ∙ ap tail_of (sym queue_read)))
       (ap (λ (w : ℕ). at e w before.free) (f ∙ ap (λ (w : ℕ). w + 1) (sym free_read)) ∙
       sym (cond-true (ltb e z.links) (at e (before.free e + 1) before.free) before.free (lt-ltb e z.links k)))
       (at_here e (turn_of l) before.turn (t ∙ sym turn_read))
@@ -69,7 +69,7 @@ module _ (ls : List Link) (ds : List (List Block)) (cs : List Came) (n : ℕ) (e
       listed (set ls e l) ds cs n ≡ arrives z e c b before
   come_in l z c b q f t =
       link_set l ∙
-      same_made _ _ _ _ _ _ cs n (ap (λ (w : List Block). at e w before.queue) (q ∙ ap (λ (w : List Block). w ++ (b ∷ [])) (sym queue_read)))
+      same_made cs n (ap (λ (w : List Block). at e w before.queue) (q ∙ ap (λ (w : List Block). w ++ (b ∷ [])) (sym queue_read)))
       (ap (λ (w : ℕ). at e w before.free) (f ∙ ap pred (sym free_read)))
       (ap (λ (w : ℕ). at e w before.turn) t)
 
@@ -92,7 +92,7 @@ module _ (z : Net) (ls : List Link) (ds : List (List Block)) (cs : List Came) (n
   door_read = behind_read (map queue_of ls) ds c z.links j [] front h
 
   door_set : (q : List Block) → listed ls (set ds j q) cs n ≡ made (at c q standing.queue) standing.free standing.turn cs n
-  door_set q = same_made _ _ _ _ _ _ cs n (behind_set (map queue_of ls) ds c z.links j q [] front h l) refl refl
+  door_set q = same_made cs n (behind_set (map queue_of ls) ds c z.links j q [] front h l) refl refl
 
   -- its first block was taken, if there was one
   pub door_left : (r : Option Block) (o q : List Block) → o ≡ get_or ds j [] → o ≡ option_to_list r ++ q → q ≡ drop 1 o →
@@ -104,9 +104,9 @@ module _ (z : Net) (ls : List Link) (ds : List (List Block)) (cs : List Came) (n
     where
       go : (r : Option Block) → r ≡ head_of (standing.queue c) → q ≡ tail_of (standing.queue c) →
           made (at c q standing.queue) standing.free standing.turn cs n ≡ leaves z c r standing
-      go None a b = same_made _ _ _ _ _ _ cs n (at_here c q standing.queue (b ∙ none_behind (standing.queue c) a)) refl refl
+      go None a b = same_made cs n (at_here c q standing.queue (b ∙ none_behind (standing.queue c) a)) refl refl
       go (Some x) a b =
-          same_made _ _ _ _ _ _ cs n (ap (λ (w : List Block). at c w standing.queue) b)
+          same_made cs n (ap (λ (w : List Block). at c w standing.queue) b)
           (sym (cond-false (ltb c z.links) (at c (standing.free c + 1) standing.free) standing.free (le-ltb c z.links (omega arith)))) refl
 
   -- a block was put behind the others
@@ -116,6 +116,6 @@ module _ (z : Net) (ls : List Link) (ds : List (List Block)) (cs : List Came) (n
       let here : standing.queue c ≡ o = door_read ∙ sym i in
       let w : c ≡ z.links + b.door = omega arith in
       door_set q ∙
-      same_made _ _ _ _ _ _ cs n
+      same_made cs n
       (ap (λ (w : List Block). at c w standing.queue) (p ∙ ap (λ (w : List Block). w ++ (b ∷ [])) (sym here)) ∙
       ap (λ (i : ℕ). at i (standing.queue i ++ (b ∷ [])) standing.queue) w) refl refl

@@ -7,7 +7,7 @@ use Rattle.tree.specs.declared.planted.Tree.{Tree}
 use Rattle.table.specs.declared.states.State.{State}
 use Rattle.table.specs.declared.sweep.Sweep.{Sweep}
 use Rattle.table.specs.Cells.{reached_at, before_at, Layer, Held, Found}
-use Rattle.table.specs.Swept.{Layers}
+use Rattle.table.specs.Swept.{swept_graph, swept_up, Layers}
 use Rattle.table.proofs.Trees.{to_small}
 use Rattle.table.proofs.Sweeping.{all_found, still_found}
 
@@ -20,39 +20,30 @@ still (s ∷ ss) a i = ⊎_elim
     ∙ sym (get_or_past (map (λ (e : State). e.reached) (s ∷ ss)) i 0 (let z = length-map (s ∷ ss) (λ (e : State). e.reached) in omega arith)))
     (cases_lt i (length (s ∷ ss)))
 
+-- every entry of a sweep is found
+abbrev pub AllFound : Sweep → Type 0
+AllFound w = Found (swept_graph w) (swept_up w) (vec_items w.states)
+
 module _ (t : Tree) where
   -- a sweep of this tree, layer j done
   pub record At (j : ℕ) (w : Sweep) : Type 0 where
     pub tree : w.tree.now ≡ t
-    pub layer : Layer (graph_in t) (up_in t) j 0 (vec_items w.states)
-
-  -- all is found
-  pub record Done (w : Sweep) : Type 0 where
-    pub size : length (vec_items w.states) ≡ t.cabling.switches + t.cabling.switches
-    pub rows : All (λ s. length (vec_items s.row) ≡ t.cabling.switches) (vec_items w.states)
-    pub found : Found (graph_in t) (up_in t) (vec_items w.states)
-
-  done : (w : Sweep) → w.tree.now ≡ t → Found (graph_in t) (up_in t) (vec_items w.states) → Done w
-  done w e f = record {
-    size = w.two_for_each ∙ ap (λ (u : Tree). u.cabling.switches + u.cabling.switches) e;
-    rows = subst (λ (u : Tree). All (λ s. length (vec_items s.row) ≡ u.cabling.switches) (vec_items w.states)) e w.rows;
-    found = f;
-  }
+    pub layer : Layer (swept_graph w) (swept_up w) j 0 (vec_items w.states)
 
   pub next_at : (j : ℕ) (w w' : Sweep) → j < t.cabling.switches + t.cabling.switches → At j w → Layers w w' → At (j + 1) w'
   next_at j w w' l a s = record {
     tree = s.tree ∙ a.tree;
     layer = let e : suc j ≡ j + 1 = omega arith in
-        subst (λ (m : ℕ). Layer (graph_in t) (up_in t) m 0 (vec_items w'.states)) e
-        (subst (λ (u : Tree). Layer (graph_in u) (up_in u) (suc j) 0 (vec_items w'.states)) a.tree
-        (s.more j (let q = ap (λ (u : Tree). u.cabling.switches) a.tree in omega arith) (subst (λ (u : Tree). Layer (graph_in u) (up_in u) j 0 (vec_items w.states)) (sym a.tree) a.layer)));
+        subst (λ (m : ℕ). Layer (swept_graph w') (swept_up w') m 0 (vec_items w'.states)) e
+        (subst (λ (u : Tree). Layer (graph_in u) (up_in u) (suc j) 0 (vec_items w'.states)) (sym s.tree)
+        (s.more j (let q = ap (λ (u : Tree). u.cabling.switches) a.tree in omega arith) a.layer));
   }
 
-  pub last_done : (j : ℕ) (w : Sweep) → j ≡ t.cabling.switches + t.cabling.switches → At j w → Done w
-  last_done j w e a = done w a.tree (all_found (graph_in t) (up_in t) j (vec_items w.states) e a.layer)
+  pub last_found : (j : ℕ) (w : Sweep) → j ≡ t.cabling.switches + t.cabling.switches → At j w → AllFound w
+  last_found j w e a = all_found (swept_graph w) (swept_up w) j (vec_items w.states) (let q = ap (λ (u : Tree). u.cabling.switches) a.tree in omega arith) a.layer
 
-  pub still_done : (j : ℕ) (w w' : Sweep) → j < t.cabling.switches + t.cabling.switches → At j w → Layers w w' → All (λ s. s.before ≡ s.reached) (vec_items w'.states) → Done w'
-  still_done j w w' l a s q = done w' (s.tree ∙ a.tree)
-      (still_found (graph_in t) (up_in t) (to_small t) j (vec_items w'.states) (still (vec_items w'.states) q) l
-      (subst (λ (u : Tree). Held (graph_in u) (up_in u) j (vec_items w'.states)) a.tree (s.held j (subst (λ (u : Tree). Layer (graph_in u) (up_in u) j 0 (vec_items w.states)) (sym a.tree) a.layer)))
-      (let e : j + 1 ≡ suc j = omega arith in subst (λ (m : ℕ). Layer (graph_in t) (up_in t) m 0 (vec_items w'.states)) e (next_at j w w' l a s).layer))
+  pub none_new : (j : ℕ) (w w' : Sweep) → j < t.cabling.switches + t.cabling.switches → At j w → Layers w w' → All (λ s. s.before ≡ s.reached) (vec_items w'.states) → AllFound w'
+  none_new j w w' l a s q = still_found (swept_graph w') (swept_up w') (to_small w'.tree.now) j (vec_items w'.states) (still (vec_items w'.states) q)
+      (let z = ap (λ (u : Tree). u.cabling.switches) (s.tree ∙ a.tree) in omega arith)
+      (subst (λ (u : Tree). Held (graph_in u) (up_in u) j (vec_items w'.states)) (sym s.tree) (s.held j a.layer))
+      (let e : j + 1 ≡ suc j = omega arith in subst (λ (m : ℕ). Layer (swept_graph w') (swept_up w') m 0 (vec_items w'.states)) e (next_at j w w' l a s).layer)

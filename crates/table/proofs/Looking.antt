@@ -1,6 +1,9 @@
 -- A link looked at from each state from which it may be taken. Assumes nothing.
-use Rattle.std.proofs.Common.{◌≡◌, ℕ, suc, ◌+◌, ◌-◌, ◌<◌, ◌≤◌, Bool, true, false, not, ◌&&◌, ◌||◌, eqb, ◌⊎◌, List, sym, refl, ap, ◌∙◌, subst, inl, inr, ⊎_elim, arith}
+use Rattle.std.proofs.Common.{◌≡◌, ℕ, suc, ◌+◌, ◌-◌, ◌%◌, ◌<◌, ◌≤◌, Bool, true, false, not, ◌&&◌, ◌||◌, eqb, ◌⊎◌, List, sym, refl, ap, ◌∙◌, subst, inl, inr, ⊎_elim, arith}
 use lib.Bits.{bit_or}
+use Rattle.std.specs.Int.Bits.{bit_xor}
+use Rattle.std.specs.Int.{bit_at}
+use Rattle.std.proofs.lemmas.Nat.Bits.{bit_at_xor, bit_at-lt}
 use Rattle.std.proofs.lemmas.Bool.{eq-eqb, ne_eqb, cases_lt, cases_eq, and_from, and_left, and_right, not_from_true, not_from_false}
 use Rattle.graph.specs.Graph.{Graph}
 use Rattle.graph.specs.Sets.{has}
@@ -11,14 +14,30 @@ use Rattle.table.specs.Kept.{most}
 use Rattle.table.specs.Cells.{state_of, Cell, Layer, Held, Relaxed}
 use Rattle.table.proofs.Layering.{high_state, low_state, idle, untouched, looked}
 
--- where nothing is new, nothing is to be marked
-pub none_new : (a b : ℕ) → bit_or a b ≡ a → (p : ℕ) → (has b p && not (has a p)) ≡ false
-none_new a b q p = old_news (has a p) (has b p) (sym (has_or a b p) ∙ ap (λ (v : ℕ). has v p) q)
+-- what is new in a union is what was not there
+either : (a b : ℕ) → a < 2 → b < 2 → eqb ((a + b) % 2) 1 ≡ ((eqb a 1 && not (eqb b 1)) || (not (eqb a 1) && eqb b 1))
+either a b l h = go (digit a l) (digit b h)
   where
-    old_news : (a b : Bool) → (a || b) ≡ a → (b && not a) ≡ false
-    old_news true true e = refl
-    old_news true false e = refl
-    old_news false b e = ap (λ (v : Bool). v && true) e
+    digit : (n : ℕ) → n < 2 → (n ≡ 0) ⊎ (n ≡ 1)
+    digit n o = ⊎_elim (λ (z : n < 1). inl (omega arith)) (λ z. inr (omega arith)) (cases_lt n 1)
+
+    go : (a ≡ 0) ⊎ (a ≡ 1) → (b ≡ 0) ⊎ (b ≡ 1) → eqb ((a + b) % 2) 1 ≡ ((eqb a 1 && not (eqb b 1)) || (not (eqb a 1) && eqb b 1))
+    go (inl p) (inl q) = rw (p, q) refl
+    go (inl p) (inr q) = rw (p, q) refl
+    go (inr p) (inl q) = rw (p, q) refl
+    go (inr p) (inr q) = rw (p, q) refl
+
+pub fresh_is : (a b p : ℕ) → has (bit_xor (bit_or a b) a) p ≡ (has b p && not (has a p))
+unfolding has
+fresh_is a b p =
+    ap (λ (v : ℕ). eqb v 1) (bit_at_xor (bit_or a b) a p) ∙ either (bit_at (bit_or a b) p) (bit_at a p) (bit_at-lt (bit_or a b) p) (bit_at-lt a p)
+    ∙ ap (λ (v : Bool). (v && not (eqb (bit_at a p) 1)) || (not v && eqb (bit_at a p) 1)) (has_or a b p) ∙ only (eqb (bit_at a p) 1) (eqb (bit_at b p) 1)
+  where
+    only : (x y : Bool) → (((x || y) && not x) || (not (x || y) && x)) ≡ (y && not x)
+    only true true = refl
+    only true false = refl
+    only false true = refl
+    only false false = refl
 
 -- where state i stands
 place_high : (n i : ℕ) → i < n → (state_of n i).1 ≡ i

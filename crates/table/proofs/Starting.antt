@@ -1,5 +1,5 @@
 -- The states as they start: each has reached its own switch, and every cell says here. Assumes nothing.
-use Rattle.std.proofs.Common.{◌≡◌, ℕ, ◌+◌, ◌-◌, ◌%◌, ◌<◌, Bool, true, false, eqb, ltb, List, [], ◌∷◌, ◌++◌, map, length, get_or, replicate, vec_items, All, sym, refl, ap, ◌∙◌, subst, ⊎_elim, arith}
+use Rattle.std.proofs.Common.{◌≡◌, ℕ, ◌+◌, ◌-◌, ◌%◌, ◌<◌, Bool, true, false, eqb, ltb, List, [], ◌∷◌, ◌++◌, map, length, get_or, replicate, vec_items, All, sym, ap, ◌∙◌, subst, ⊎_elim, arith}
 use Rattle.std.proofs.Math.Nat.{mod-eq_of_lt, mod-eq-sub-mod}
 use Rattle.std.proofs.lemmas.List.{get_or_past, get_or_push, get_or_append_left, get_or-replicate, length-map, length-replicate, length-append, map-append}
 use Rattle.std.proofs.lemmas.List.Elements.{All-append}
@@ -20,9 +20,6 @@ pub record Started (n : ℕ) (ss : List State) (k : ℕ) : Type 0 where
 -- entries that say here, wherever they are read
 pub all_here : (k i : ℕ) → get_or (replicate k Here) i Here ≡ Here
 all_here k i = ⊎_elim (λ (l : i < k). get_or-replicate k i Here Here l) (λ l. get_or_past (replicate k Here) i Here (let z = length-replicate k Here in omega arith)) (cases_lt i k)
-
-pub started_none : (n : ℕ) (ss : List State) → ss ≡ [] → Started n ss 0
-started_none n ss e = subst (λ (xs : List State). Started n xs 0) (sym e) (record { size = refl; rows = λ i d l. absurd (omega arith); own = λ i t l. absurd (omega arith); here = λ i p. refl })
 
 -- the switch of state i
 own_switch : (n i : ℕ) → 0 < n → i < n + n → i % n ≡ (state_of n i).1

@@ -1,8 +1,8 @@
 ghost use Rattle.std.specs.Prelude.{◌≡◌, ℕ, ◌+◌, ◌<◌, length, slice_index_or, IfOk};
 ghost use Rattle.net.specs.declared.Entry.TheVariants.{Here};
 ghost use Rattle.table.specs.Cells.{state_of};
-ghost use Rattle.table.specs.Kept.{start, whole};
-ghost use Rattle.tree.specs.Planted.{graph_in, up_in};
+ghost use Rattle.table.specs.Kept.{channels, start, whole};
+ghost use Rattle.table.specs.Swept.{swept_graph, swept_up};
 
 use crate::sweep::{Onward, Sweep};
 use crate::ways::{goes_up, links, to};
@@ -13,7 +13,7 @@ use tree::Tree;
 impl<'a> Onward<'a> {
     // Layer by layer each state takes a link as soon as one leads nearer.
     pub(crate) fn new(heap: Global, tree: &'a Tree) -> Result<Onward<'a>, AllocError>
-        ensures { IfOk result (λ w. w.tree.now ≡ tree.now) }
+        ensures { IfOk result (λ w. w.swept.tree.now ≡ tree.now) }
     {
         let n = tree.cabling.switches;
         let mut sweep = Sweep::new(heap, tree)?;
@@ -23,35 +23,32 @@ impl<'a> Onward<'a> {
                 break;
             }
         }
-        Ok(Onward {
-            tree,
-            states: sweep.states,
-        })
+        Ok(Onward { swept: sweep })
     }
 
     // The index of the state after channel c.
     fn state_after(&self, c: usize) -> usize
-        requires { c < (graph_in self.now.tree.now).links + (graph_in self.now.tree.now).n }
-        ensures state { state_of (graph_in self.now.tree.now).n result ≡ start (graph_in self.now.tree.now) (up_in self.now.tree.now) c }
-        ensures inside { result < (graph_in self.now.tree.now).n + (graph_in self.now.tree.now).n }
+        requires { c < channels (swept_graph self.now.swept) }
+        ensures state { state_of (swept_graph self.now.swept).n result ≡ start (swept_graph self.now.swept) (swept_up self.now.swept) c }
+        ensures inside { result < (swept_graph self.now.swept).n + (swept_graph self.now.swept).n }
     {
-        let n = self.tree.cabling.switches;
-        let links = links(self.tree);
+        let n = self.swept.tree.cabling.switches;
+        let links = links(self.swept.tree);
         if links <= c {
             c - links
-        } else if goes_up(self.tree, c) {
-            to(self.tree, c)
+        } else if goes_up(self.swept.tree, c) {
+            to(self.swept.tree, c)
         } else {
-            n + to(self.tree, c)
+            n + to(self.swept.tree, c)
         }
     }
 
     // How blocks go on from channel c, to each place.
     pub(crate) fn row(&self, c: usize) -> &[Entry]
-        requires { c < (graph_in self.now.tree.now).links + (graph_in self.now.tree.now).n }
-        ensures size { length result.now ≡ (graph_in self.now.tree.now).n }
-        ensures cells { (p : ℕ) → p < (graph_in self.now.tree.now).n → slice_index_or result.now p Here ≡ whole (graph_in self.now.tree.now) (up_in self.now.tree.now) c p }
+        requires { c < channels (swept_graph self.now.swept) }
+        ensures size { length result.now ≡ (swept_graph self.now.swept).n }
+        ensures cells { (p : ℕ) → p < (swept_graph self.now.swept).n → slice_index_or result.now p Here ≡ whole (swept_graph self.now.swept) (swept_up self.now.swept) c p }
     {
-        self.states[self.state_after(c)].row.as_slice()
+        self.swept.states[self.state_after(c)].row.as_slice()
     }
 }

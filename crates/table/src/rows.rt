@@ -1,9 +1,9 @@
-ghost use Rattle.std.specs.Prelude.{◌≡◌, ℕ, ◌+◌, ◌*◌, ◌<◌, length, if◌then◌else◌, slice_index_or};
+ghost use Rattle.std.specs.Prelude.{◌≡◌, ℕ, ◌*◌, ◌<◌, length, if◌then◌else◌, slice_index_or};
 ghost use Rattle.graph.specs.Sets.{has as «has-spec»};
 ghost use Rattle.net.specs.declared.Entry.TheVariants.{Here};
-ghost use Rattle.table.specs.Kept.{kept};
-ghost use Rattle.table.specs.Marked.{AllMet, RowOf};
-ghost use Rattle.tree.specs.Planted.{graph_in, up_in};
+ghost use Rattle.table.specs.Kept.{channels};
+ghost use Rattle.table.specs.Marked.{AllMet, Filled, RowOf};
+ghost use Rattle.table.specs.Swept.{swept_graph, swept_up};
 
 use crate::sweep::Onward;
 use crate::ways::links;
@@ -26,23 +26,23 @@ fn fill_row(row: &mut [Entry], onward: &[Entry], met: u64)
 impl<'a> Onward<'a> {
     // Lends the row of channel c on to be filled. To a door blocks for all places come.
     fn fill_channel(&self, met: &[u64], table: &mut [Entry], c: usize)
-        requires met { AllMet (graph_in self.now.tree.now) (up_in self.now.tree.now) met.now }
-        requires size { length table.old ≡ ((graph_in self.now.tree.now).links + (graph_in self.now.tree.now).n) * (graph_in self.now.tree.now).n }
-        requires channel { c < (graph_in self.now.tree.now).links + (graph_in self.now.tree.now).n }
-        ensures { RowOf (graph_in self.now.tree.now) (up_in self.now.tree.now) table.old c table.new }
+        requires met { AllMet (swept_graph self.now.swept) (swept_up self.now.swept) met.now }
+        requires size { length table.old ≡ channels (swept_graph self.now.swept) * (swept_graph self.now.swept).n }
+        requires channel { c < channels (swept_graph self.now.swept) }
+        ensures { RowOf (swept_graph self.now.swept) (swept_up self.now.swept) table.old c table.new }
     {
-        let n = self.tree.cabling.switches;
+        let n = self.swept.tree.cabling.switches;
         let met = met.get(c).copied().unwrap_or(u64::MAX);
         fill_row(&mut table[c * n..c * n + n], self.row(c), met);
     }
 
     // Fills the lent table, row by row.
     pub(crate) fn fill_table(&self, met: &[u64], table: &mut [Entry])
-        requires met { AllMet (graph_in self.now.tree.now) (up_in self.now.tree.now) met.now }
-        requires size { length table.old ≡ ((graph_in self.now.tree.now).links + (graph_in self.now.tree.now).n) * (graph_in self.now.tree.now).n }
-        ensures { (c p : ℕ) → c < (graph_in self.now.tree.now).links + (graph_in self.now.tree.now).n → p < (graph_in self.now.tree.now).n → slice_index_or table.new (c * (graph_in self.now.tree.now).n + p) Here ≡ kept (graph_in self.now.tree.now) (up_in self.now.tree.now) c p }
+        requires met { AllMet (swept_graph self.now.swept) (swept_up self.now.swept) met.now }
+        requires size { length table.old ≡ channels (swept_graph self.now.swept) * (swept_graph self.now.swept).n }
+        ensures { Filled (swept_graph self.now.swept) (swept_up self.now.swept) table.new }
     {
-        for c in 0..links(self.tree) + self.tree.cabling.switches {
+        for c in 0..links(self.swept.tree) + self.swept.tree.cabling.switches {
             self.fill_channel(met, table, c);
         }
     }

@@ -37,9 +37,10 @@ impl State {
     {
         let had = self.reached;
         self.reached |= more;
-        if self.reached != had {
+        let fresh = self.reached ^ had;
+        if fresh != 0 {
             for (p, entry) in self.row.iter_mut().enumerate() {
-                if has(more, p) && !has(had, p) {
+                if has(fresh, p) {
                     *entry = Entry::Link(k);
                 }
             }

@@ -1,7 +1,6 @@
 ghost use Rattle.std.specs.Prelude.{◌≡◌, ◌↔◌, ◌+◌, ◌<◌, All, IsTrue, IfOk};
 ghost use Rattle.table.specs.Cells.{Layer};
-ghost use Rattle.table.specs.Swept.{Layers, Looks, Steps, Underway};
-ghost use Rattle.tree.specs.Planted.{graph_in, up_in};
+ghost use Rattle.table.specs.Swept.{Layers, Looks, Steps, Underway, swept_graph, swept_up};
 
 use crate::states::State;
 use crate::sweep::Sweep;
@@ -12,7 +11,7 @@ use tree::Tree;
 impl<'a> Sweep<'a> {
     // At first each state has reached its own switch.
     pub(crate) fn new(heap: Global, tree: &'a Tree) -> Result<Sweep<'a>, AllocError>
-        ensures { IfOk result (λ w. (w.tree.now ≡ tree.now) × Layer (graph_in tree.now) (up_in tree.now) 0 0 w.states.items) }
+        ensures { IfOk result (λ w. (w.tree.now ≡ tree.now) × Layer (swept_graph w) (swept_up w) 0 0 w.states.items) }
     {
         let n = tree.cabling.switches;
         let mut states = Vec::new(heap);
@@ -24,8 +23,8 @@ impl<'a> Sweep<'a> {
 
     // Link k leads from state x to state y: what y had reached is added to what x has.
     fn step(&mut self, x: usize, y: usize, k: usize)
-        requires x { x < self.old.tree.now.cabling.switches + self.old.tree.now.cabling.switches }
-        requires y { y < self.old.tree.now.cabling.switches + self.old.tree.now.cabling.switches }
+        requires x { x < (swept_graph self.old).n + (swept_graph self.old).n }
+        requires y { y < (swept_graph self.old).n + (swept_graph self.old).n }
         requires k { k < 256 }
         ensures { Steps self.old x y k self.new }
     {
@@ -35,7 +34,7 @@ impl<'a> Sweep<'a> {
 
     // Link k is looked at from each state from which it may be taken: links up only where none down was taken before.
     fn look(&mut self, k: usize)
-        requires { k < (graph_in self.old.tree.now).links }
+        requires { k < (swept_graph self.old).links }
         ensures { Looks self.old k self.new }
     {
         let n = self.tree.cabling.switches;

@@ -14,12 +14,9 @@ pub(crate) struct Sweep<'a> {
     ghost rows: { All (λ s. length s.row.items ≡ tree.now.cabling.switches) states.items },
 }
 
-// How to go on from every state to every place.
+// A sweep whose layers are all done: its rows say how to go on from every state to every place.
 #[derive(Drop)]
 pub(crate) struct Onward<'a> {
-    pub(crate) tree: &'a Tree,
-    pub(crate) states: Vec<State>,
-    ghost two_for_each: { length states.items ≡ tree.now.cabling.switches + tree.now.cabling.switches },
-    ghost rows: { All (λ s. length s.row.items ≡ tree.now.cabling.switches) states.items },
-    ghost found: { Found (graph_in tree.now) (up_in tree.now) states.items },
+    pub(crate) swept: Sweep<'a>,
+    ghost found: { Found (graph_in swept.tree.now) (up_in swept.tree.now) swept.states.items },
 }

@@ -1,14 +1,15 @@
 -- The road that a table walks is the only one, and the wait of a pair is the one that its line says. Assumes nothing.
-use Rattle.std.proofs.Common.{◌≡◌, ℕ, ◌+◌, ◌*◌, ◌<◌, Bool, cond, ◌&&◌, ltb, List, ◌∷◌, Some, None, Option, unwrap_or, sym, refl, ap, ◌∙◌, subst, arith, lt-ltb}
+use Rattle.std.proofs.Common.{◌≡◌, ℕ, zero, suc, ◌+◌, ◌*◌, ◌<◌, Bool, cond, ◌&&◌, ltb, List, ◌∷◌, length, get_or, Some, None, Option, sym, refl, ap, ◌∙◌, subst, arith, lt-ltb}
 use Rattle.std.proofs.lemmas.Bool.{and_from}
 use Rattle.net.specs.declared.Entry.TheVariants.{Here, Link}
 use Rattle.net.specs.Layout.{net_of}
 use Rattle.net.specs.Net.{Net}
+use Rattle.net.specs.declared.plan.Plan.{Plan}
 use Rattle.machine.specs.Waits.{patience, wait}
 use Rattle.plan.specs.declared.hall.Hall.{Hall}
 use Rattle.waits.specs.Laws.{Road, arrived, over, stores}
 use Rattle.waits.proofs.Fuel.{wait_law}
-use Rattle.waits.proofs.Plans.{plan_good}
+use Rattle.waits.proofs.Plans.{plan_good, plan_link}
 use Rattle.text.specs.Laid.{Way, wait_along}
 
 pub one_road : (z : Net) {p c : ℕ} {es fs : List ℕ} → Road z p c es → Road z p c fs → es ≡ fs
@@ -20,10 +21,16 @@ one_road z {p} (over {e = e} {es = es} h r) (over {e = f} {es = gs} k q) =
     let m : e ≡ f = cc in
     ap (λ (x : ℕ). x ∷ es) m ∙ ap (λ (xs : List ℕ). f ∷ xs) (one_road z r (subst (λ (x : ℕ). Road z p x gs) (sym m) q))
 
+-- the links of a road are links of its net
+pub road_links : (m : Plan) {p c : ℕ} {es : List ℕ} → Road (net_of m.layout) p c es → (i : ℕ) → i < length es → get_or es i 0 < m.layout.links
+road_links m (arrived h) i l = absurd (omega arith)
+road_links m {p} {c} (over {e = e} h r) zero l = plan_link m c p e h
+road_links m (over {e = e} {es = es} h r) (suc i) l = road_links m r i (omega arith)
+
 -- what the bounds tell of a pair is the sum along its road
 pub wait_is : (h : Hall) (d p m : ℕ) (es : List ℕ) (r : Option ℕ) → d < h.bounds.plan.layout.doors → p < h.bounds.plan.layout.places → Way h d p es →
     r ≡ cond (ltb d h.bounds.plan.layout.doors && ltb p h.bounds.plan.layout.places) (Some (wait (net_of h.bounds.plan.layout) 0 (h.bounds.plan.layout.links + d) p)) None →
-    m ≡ unwrap_or r 0 → m ≡ wait_along h d es
+    r ≡ Some m → m ≡ wait_along h d es
 wait_is h d p m es r ld lp w q u =
     let l = h.bounds.plan.layout in
     let z = net_of l in
@@ -31,5 +38,6 @@ wait_is h d p m es r ld lp w q u =
     let a = and_from (ltb d l.doors) (ltb p l.places) (lt-ltb d l.doors ld) (lt-ltb p l.places lp) in
     let i = h.bounds.complete.right c (omega arith) in
     let s : (0 + 1) * patience z c + stores z es ≡ wait_along h d es = ap (λ (x : ℕ). x + stores z es) (let o : (0 + 1) * patience z c ≡ patience z c = omega arith in o ∙ sym i) in
-    u ∙ ap (λ (x : Option ℕ). unwrap_or x 0) (q ∙ ap (λ (b : Bool). cond b (Some (wait z 0 c p)) None) a)
-    ∙ (wait_law z (plan_good h.bounds.plan) c p).1 0 es w ∙ s
+    let t : Some m ≡ Some (wait z 0 c p) = sym u ∙ q ∙ ap (λ (b : Bool). cond b (Some (wait z 0 c p)) None) a in
+    let v : m ≡ wait z 0 c p = cc in
+    v ∙ (wait_law z (plan_good h.bounds.plan) c p).1 0 es w ∙ s

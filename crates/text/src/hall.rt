@@ -1,5 +1,5 @@
 // The text of a hall that is laid, a fact to a line.
-ghost use Rattle.std.specs.Prelude.{◌≡◌, ℕ, ◌+◌, ◌^◌, ◌<◌, List, ◌++◌, IfOk, string_bytes, OnOk};
+ghost use Rattle.std.specs.Prelude.{◌≡◌, ℕ, ◌<◌, List, ◌++◌, IfOk, string_bytes, OnOk, slice_index, EachIndex};
 ghost use Rattle.text.specs.Laid.{Way, Ways, along_text, doors_text, text_of_hall, head_text, links_text, patience_in, road_text, roads_text, row_text, table_text};
 
 use crate::pieces::{Line, Spaced, write_each};
@@ -48,6 +48,7 @@ fn head(text: &mut String, hall: &Hall) -> Result<(), AllocError>
 fn patience(hall: &Hall, channel: usize) -> u64
     ensures { result ≡ patience_in hall.now channel }
 {
+    // 0 for none: no fact of a hall says that the links of its tree are channels of its plan
     hall.bounds.patience(channel).unwrap_or(0)
 }
 
@@ -72,25 +73,23 @@ fn links(text: &mut String, hall: &Hall) -> Result<(), AllocError>
     )
 }
 
-// A door with all that is known of it.
-fn door(hall: &Hall, switch: usize) -> DoorLine
-    requires { hall.now.bounds.plan.layout.links + switch < 2 ^ 64 }
-    ensures { (result.channel ≡ hall.now.bounds.plan.layout.links + switch) × (result.switch ≡ switch) × (result.patience ≡ patience_in hall.now (hall.now.bounds.plan.layout.links + switch)) }
-{
-    let channel = hall.bounds.plan.layout.links + switch;
-    DoorLine {
-        channel,
-        switch,
-        patience: patience(hall, channel),
-    }
-}
-
 // All doors.
 fn doors(text: &mut String, hall: &Hall) -> Result<(), AllocError>
     ensures { OnOk result (string_bytes text.new ≡ string_bytes text.old ++ doors_text hall.now) }
 {
-    let switches = 0..hall.bounds.plan.layout.doors;
-    write_each(text, switches.map(|switch| Line(door(hall, switch))))
+    let layout = &hall.bounds.plan.layout;
+    let switches = 0..layout.doors;
+    write_each(
+        text,
+        switches.map(|switch| {
+            let channel = layout.links + switch;
+            Line(DoorLine {
+                channel,
+                switch,
+                patience: patience(hall, channel),
+            })
+        }),
+    )
 }
 
 // The row of a channel.
@@ -113,6 +112,7 @@ fn table(text: &mut String, hall: &Hall) -> Result<(), AllocError>
     ensures { OnOk result (string_bytes text.new ≡ string_bytes text.old ++ table_text hall.now) }
 {
     let layout = &hall.bounds.plan.layout;
+    // each row is written in pieces, so it is no thing that an iterator could give
     for channel in 0..layout.links + layout.doors {
         row(text, hall, channel)?;
     }
@@ -121,13 +121,11 @@ fn table(text: &mut String, hall: &Hall) -> Result<(), AllocError>
 
 // The rest of a road's line: the switches at which its links end, and the links.
 fn along(text: &mut String, hall: &Hall, road: &[u16]) -> Result<(), AllocError>
+    requires { EachIndex road.now (λ k. slice_index road.now k < hall.now.bounds.plan.layout.links) }
     ensures { OnOk result (string_bytes text.new ≡ string_bytes text.old ++ along_text hall.now road.now) }
 {
     let ends = hall.bounds.plan.layout.ends.as_slice();
-    write_each(
-        text,
-        road.iter().map(|link| Spaced(ends.get(*link as usize).copied().unwrap_or(0))),
-    )?;
+    write_each(text, road.iter().map(|link| Spaced(ends[*link as usize])))?;
     write!(text, " links")?;
     if road.is_empty() {
         write!(text, " none")?;
@@ -149,10 +147,8 @@ fn road(
     requires place { place < hall.now.bounds.plan.layout.places }
     ensures { OnOk result ((es : List ℕ) → Way hall.now from place es → string_bytes text.new ≡ string_bytes text.old ++ road_text hall.now from place es) }
 {
-    let Some(links) = hall.road(heap, from, place)? else {
-        return Ok(());
-    };
-    let wait = hall.wait(from, place).unwrap_or(0);
+    let links = hall.road(heap, from, place)?.unwrap();
+    let wait = hall.wait(from, place).unwrap();
     write!(text, "{}", RoadHead { from, place, wait })?;
     along(text, hall, links.as_slice())?;
     Ok(())

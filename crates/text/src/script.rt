@@ -36,9 +36,7 @@ fn stores(text: &mut String, running: &Running) -> Result<(), AllocError>
     ensures { OnOk result (string_bytes text.new ≡ string_bytes text.old ++ below (store_one running.now) (net_in running.now).links) }
 {
     for e in 0..running.plan().layout.links {
-        if let Some(link) = running.link(e) {
-            store(text, e, link)?;
-        }
+        store(text, e, running.link(e).unwrap())?;
     }
     Ok(())
 }
@@ -53,7 +51,7 @@ fn waiting(text: &mut String, running: &Running) -> Result<(), AllocError>
         doors.map(|door| {
             Line(WaitingLine {
                 door,
-                count: running.waiting_at(door).unwrap_or(0),
+                count: running.waiting_at(door).unwrap(),
             })
         }),
     )

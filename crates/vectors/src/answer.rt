@@ -8,7 +8,7 @@ use std::fmt;
 use wire::{Refusal, WireError};
 
 // How a program ends.
-#[derive(Clone, Copy)]
+#[derive(Clone, Copy, Debug, PartialEq, Eq)]
 pub enum End {
     // All was played, and there is no ring in a table.
     Well,
@@ -18,7 +18,7 @@ pub enum End {
     Refused(Refusal),
 }
 
-#[derive(Clone, Copy)]
+#[derive(Clone, Copy, Debug, PartialEq, Eq)]
 pub struct Answer {
     pub end: End,
     pub digest: Digest,

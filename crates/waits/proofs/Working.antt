@@ -1,7 +1,7 @@
 -- Patience place by place, and a list of patiences slot by slot. Assumes nothing.
-use Rattle.std.proofs.Common.{◌≡◌, ℕ, zero, suc, ◌+◌, ◌*◌, ◌<◌, ◌≤◌, max, Bool, true, cond, ◌⊎◌, List, ◌++◌, length, get_or, take, drop, set, replicate, sym, refl, ap, ◌∙◌, subst, inl, inr, ⊎_elim, mul-le-mul_right, add-one, arith}
+use Rattle.std.proofs.Common.{◌≡◌, ℕ, zero, suc, ◌+◌, ◌*◌, ◌<◌, ◌≤◌, max, Bool, true, cond, ◌⊎◌, List, length, get_or, set, sym, refl, ap, ◌∙◌, subst, inl, inr, ⊎_elim, mul-le-mul_right, add-one, arith}
 use native.Mathlib.Nat.{le-max_left, le-max_right, max_comm, max-eq_left, max-eq_right, max-le}
-use Rattle.std.proofs.lemmas.List.{length-set, length-replicate, get_or-replicate, take_at, get_or-set_same, get_or-set_other}
+use Rattle.std.proofs.lemmas.List.{length-set, get_or-set_same, get_or-set_other}
 use Rattle.std.proofs.lemmas.Bool.{eq-eqb, cases_eq, cases_lt, or_left, or_right}
 use Rattle.net.specs.declared.Entry.{Entry}
 use Rattle.net.specs.declared.Entry.TheVariants.{Here, Link}
@@ -105,19 +105,6 @@ stays_set found c v l s = λ d h. ⊎_elim
     (λ t. subst (λ (j : ℕ). 0 < get_or (set found c v) j 0) (sym t) (let i = get_or-set_same found c v 0 l in omega arith))
     (λ t. let i = get_or-set_other found c d v 0 t in omega arith)
     (cases_eq d c)
-
--- a slot that is not empty is right
-pub slot_right : (z : Net) (found : List ℕ) → Partly z found → (c : ℕ) → c < channels z → 0 < get_or found c 0 →
-    (get_or found c 0 ≡ patience z c) × (patience z c ≤ longest)
-slot_right z found k c l h = ⊎_elim (λ e. absurd (omega arith)) (λ r. r) (k.right c l)
-
--- nothing is worked out yet
-pub partly_none : (z : Net) → Partly z (replicate (channels z) 0)
-partly_none z = record { slots = length-replicate (channels z) 0; right = λ c l. inl (get_or-replicate (channels z) c 0 0 l) }
-
--- what was written into the slice that a Vec lends is what the Vec holds
-pub lent_back : (xs ys : List ℕ) (n : ℕ) → length ys ≡ n → take n (ys ++ drop (length ys) xs) ≡ ys
-lent_back xs ys n e = take_at ys (drop (length ys) xs) n e
 
 cases_le : (a b : ℕ) → (a ≤ b) ⊎ (b ≤ a)
 cases_le a b = ⊎_elim (λ l. inl (omega arith)) (λ l. inr l) (cases_lt a b)

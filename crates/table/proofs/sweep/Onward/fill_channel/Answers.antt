@@ -6,7 +6,7 @@ use Rattle.table.proofs.sweep.Onward.fill_channel.Goals as goal
 
 pub returns : goal.returns
 returns c =
-    let t = c.args.self.now.tree.now in
+    let t = c.args.self.now.swept.tree.now in
     let n = t.cabling.switches in
     let in_table = row_in n c.args.c ((graph_in t).links + n) c.requires.channel in
     let size = c.requires.size in

@@ -9,16 +9,16 @@ use Rattle.table.proofs.sweep.Onward.met.Goals as goal
 pub loop-s-init : goal.loop-s-init
 loop-s-init c =
     let q = c.in_ok-met.ensures.items_if_clones_equal (λ y e. e) in
-    doors_none (graph_in c.args.self.now.tree.now) (up_in c.args.self.now.tree.now) (vec_items c.in_ok-met.met) (ap length q ∙ length-replicate {A = ℕ} c.links.result 0 ∙ c.links.ensures) (λ i. ap (λ (xs : List ℕ). get_or xs i 0) q ∙ all_zero c.links.result i)
+    doors_none (graph_in c.args.self.now.swept.tree.now) (up_in c.args.self.now.swept.tree.now) (vec_items c.in_ok-met.met) (ap length q ∙ length-replicate {A = ℕ} c.links.result 0 ∙ c.links.ensures) (λ i. ap (λ (xs : List ℕ). get_or xs i 0) q ∙ all_zero c.links.result i)
 
 pub loop-s-preserved : goal.loop-s-preserved
 loop-s-preserved c =
     let z : length c.walk_door.new.met ≡ length (vec_items c.loop-s.met) = c.walk_door.auto.met ∙ ap length c.deref_mut.ensures.value in
     let e : take c.loop-s.met.len (c.walk_door.new.met ++ drop (length c.walk_door.new.met) (vec_items c.loop-s.met)) ≡ c.walk_door.new.met =
     take_at c.walk_door.new.met (drop (length c.walk_door.new.met) (vec_items c.loop-s.met)) c.loop-s.met.len (c.walk_door.auto.met ∙ c.deref_mut.ensures.len) in
-    subst (λ (ms : List ℕ). Doors (graph_in c.args.self.now.tree.now) (up_in c.args.self.now.tree.now) (c.loop-s.s + 1) ms) (sym e)
-    (doors_more (graph_in c.args.self.now.tree.now) (up_in c.args.self.now.tree.now) c.loop-s.s (vec_items c.loop-s.met) c.walk_door.new.met z c.loop-s.invariant
-    (subst (λ (ms : List ℕ). Walks (graph_in c.args.self.now.tree.now) (up_in c.args.self.now.tree.now) c.loop-s.s (λ q. q < (graph_in c.args.self.now.tree.now).n) ms c.walk_door.new.met) c.deref_mut.ensures.value c.walk_door.ensures))
+    subst (λ (ms : List ℕ). Doors (graph_in c.args.self.now.swept.tree.now) (up_in c.args.self.now.swept.tree.now) (c.loop-s.s + 1) ms) (sym e)
+    (doors_more (graph_in c.args.self.now.swept.tree.now) (up_in c.args.self.now.swept.tree.now) c.loop-s.s (vec_items c.loop-s.met) c.walk_door.new.met z c.loop-s.invariant
+    (subst (λ (ms : List ℕ). Walks (graph_in c.args.self.now.swept.tree.now) (up_in c.args.self.now.swept.tree.now) c.loop-s.s (λ q. q < (graph_in c.args.self.now.swept.tree.now).n) ms c.walk_door.new.met) c.deref_mut.ensures.value c.walk_door.ensures))
 
 pub returns : goal.returns
-returns c = doors_all (graph_in c.args.self.now.tree.now) (up_in c.args.self.now.tree.now) c.loop-s.s (vec_items c.loop-s.met) (omega arith) c.loop-s.invariant
+returns c = doors_all (graph_in c.args.self.now.swept.tree.now) (up_in c.args.self.now.swept.tree.now) c.loop-s.s (vec_items c.loop-s.met) (omega arith) c.loop-s.invariant

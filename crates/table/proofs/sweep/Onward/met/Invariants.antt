@@ -4,4 +4,4 @@ use Rattle.table.proofs.Walking.{Doors}
 use Rattle.table.proofs.sweep.Onward.met.Given as goal
 
 abbrev pub invariant-loop-s : goal.invariant-loop-s
-invariant-loop-s l = Doors (graph_in l.self.tree.now) (up_in l.self.tree.now) l.s (vec_items l.met)
+invariant-loop-s l = Doors (graph_in l.self.swept.tree.now) (up_in l.self.swept.tree.now) l.s (vec_items l.met)

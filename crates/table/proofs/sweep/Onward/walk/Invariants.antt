@@ -6,7 +6,7 @@ use Rattle.table.proofs.Marking.{Going}
 use Rattle.table.proofs.sweep.Onward.walk.Given as goal
 
 abbrev pub invariant-loop-link : goal.invariant-loop-link
-invariant-loop-link l = Going (graph_in l.self.tree.now) (up_in l.self.tree.now) l.s l.p l.initial.met l.met l.c
+invariant-loop-link l = Going (graph_in l.self.swept.tree.now) (up_in l.self.swept.tree.now) l.s l.p l.initial.met l.met l.c
 
 abbrev pub decreases-loop-link : goal.decreases-loop-link
-decreases-loop-link l = shortest (legal (graph_in l.self.tree.now) (up_in l.self.tree.now)) (stands l.p) (most (graph_in l.self.tree.now)) (start (graph_in l.self.tree.now) (up_in l.self.tree.now) l.c)
+decreases-loop-link l = shortest (legal (graph_in l.self.swept.tree.now) (up_in l.self.swept.tree.now)) (stands l.p) (most (graph_in l.self.swept.tree.now)) (start (graph_in l.self.swept.tree.now) (up_in l.self.swept.tree.now) l.c)

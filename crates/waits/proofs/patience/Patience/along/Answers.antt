@@ -12,23 +12,6 @@ loop-e-init c =
     let k = higher_most (net_of c.args.self.now.plan.now.layout) c.args.c in
     record { there = c.requires; left = omega arith; small = omega arith }
 
-pub full_store-sum-requires : goal.full_store-sum-requires
-full_store-sum-requires c =
-    let m = c.args.self.now.plan.now in
-    let q = told m c.loop-e.at c.args.p (Link c.in-Link.e) c.in-Link.ensures in
-    let l : c.in-Link.e < m.layout.links = plan_link m c.loop-e.at c.args.p c.in-Link.e q in
-    let d : c.in-Link.e < channels (net_of m.layout) = omega arith in
-    let r = c.args.self.now.complete.right c.in-Link.e d in
-    let s = c.args.self.now.complete.short c.in-Link.e d in
-    record { room = m.sized.most; long = omega arith }
-
-pub overflow_add-sum : goal.overflow_add-sum
-overflow_add-sum c =
-    let k = c.full_store-sum.ensures.small in
-    let f = c.args.self.now.plan.now.sized.few in
-    let v = c.loop-e.invariant.small in
-    omega arith
-
 pub loop-e-smaller : goal.loop-e-smaller
 loop-e-smaller c =
     let m = c.args.self.now.plan.now in
@@ -48,12 +31,10 @@ loop-e-preserved c =
     (get_or c.args.self.now.found.now c.in-Link.e 0) q r (omega arith) c.loop-e.invariant in
     subst (λ (x : ℕ). Walked z c.args.c c.args.p c.in-Link.e (c.loop-e.sum + x)) (sym c.full_store-sum.ensures.is) k
 
-pub returns : goal.returns
-returns c =
+pub returns-clause-is : goal.returns-clause-is
+returns-clause-is c =
     let m = c.args.self.now.plan.now in
     let e = rest_here (net_of m.layout) (plan_good m) c.loop-e.at c.args.p
     (told m c.loop-e.at c.args.p Here c.in_default.ensures) in
     let v = c.loop-e.invariant.left in
-    let u = c.loop-e.invariant.small in
-    let f = m.sized.few in
-    record { is = omega arith; small = omega arith }
+    omega arith
