@@ -1,5 +1,5 @@
 -- What is written of each thing that a chain gives. Assumes nothing.
-use Rattle.std.proofs.Common.{◌≡◌, ℕ, zero, suc, ◌+◌, ◌<◌, List, [], ◌∷◌, ◌++◌, length, map, Option, Some, sym, refl, ap, ◌∙◌, subst, append_assoc, append-nil, length-append, arith}
+use Rattle.std.proofs.Common.{◌≡◌, ℕ, zero, suc, ◌+◌, List, [], ◌∷◌, ◌++◌, length, map, Option, Some, sym, refl, ap, ◌∙◌, subst, append_assoc, append-nil, length-append, arith}
 use denote.Param.Members.{Mut}
 use Rattle.std.specs.Fn.{Called}
 use Rattle.std.specs.Iterator.Adapters.{enumerate_count, enumerate_source, enumerate_steps, filter_map_callee, filter_map_source, filter_map_steps, map_callee, map_source}
@@ -19,7 +19,7 @@ flat v [] = refl
 flat v (x ∷ xs) = ap (λ u. v x ++ u) (flat v xs)
 
 -- the texts that a chain gives
-pub chain_written : {S A : Type 0} {output : A → Option (List ℕ)} {steps : S → Option A → S → Type 0} {s : S} {old new : List ℕ} (all : List (List ℕ)) →
+chain_written : {S A : Type 0} {output : A → Option (List ℕ)} {steps : S → Option A → S → Type 0} {s : S} {old new : List ℕ} (all : List (List ℕ)) →
     Writes output steps s old new → ((x : A) → IsSome (output x)) → YieldsList steps (shown output) s all → new ≡ old ++ flat_map (λ u. u) all
 chain_written {output = output} {old = old} all w o y =
     let r = w.written o in
@@ -40,12 +40,6 @@ unfolding below
 below_written {output = output} {old = old} g f n w a b o r =
     chain_written (map f (range_with_len 0 n)) w o (YieldsList-from_map_by g (shown output) f (YieldsList-from_range 0 n n a (omega arith)) b r)
     ∙ ap (λ (u : List ℕ). old ++ u) (range_flat f 0 n n [] (omega arith) refl)
-
--- the texts of numbers are the same where those of the numbers below are
-pub below_same : (f h : ℕ → List ℕ) (n : ℕ) → ((k : ℕ) → k < n → f k ≡ h k) → below f n ≡ below h n
-unfolding below
-below_same f h zero e = refl
-below_same f h (suc n) e = ap (λ (u : List ℕ). u ++ f n) (below_same f h n (λ k l. e k (omega arith))) ∙ ap (λ (u : List ℕ). below h n ++ u) (e n (omega arith))
 
 each_flat : {A : Type 0} (f : A → List ℕ) (k : ℕ) (xs : List A) → flat_map (λ u. u) (map f xs) ≡ each (λ _. f) k xs
 unfolding each

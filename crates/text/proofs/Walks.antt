@@ -1,5 +1,5 @@
 -- The road that a table walks is the only one, and the wait of a pair is the one that its line says. Assumes nothing.
-use Rattle.std.proofs.Common.{◌≡◌, ℕ, zero, suc, ◌+◌, ◌*◌, ◌<◌, Bool, cond, ◌&&◌, ltb, List, ◌∷◌, length, get_or, Some, None, Option, sym, refl, ap, ◌∙◌, subst, arith, lt-ltb}
+use Rattle.std.proofs.Common.{◌≡◌, ℕ, zero, suc, ◌+◌, ◌*◌, ◌<◌, Bool, cond, ◌&&◌, ltb, List, ◌∷◌, length, get_or, vec_len, Some, None, Option, sym, refl, ap, ◌∙◌, subst, arith, lt-ltb}
 use Rattle.std.proofs.lemmas.Bool.{and_from}
 use Rattle.net.specs.declared.Entry.TheVariants.{Here, Link}
 use Rattle.net.specs.Layout.{net_of}
@@ -21,10 +21,10 @@ one_road z {p} (over {e = e} {es = es} h r) (over {e = f} {es = gs} k q) =
     let m : e ≡ f = cc in
     ap (λ (x : ℕ). x ∷ es) m ∙ ap (λ (xs : List ℕ). f ∷ xs) (one_road z r (subst (λ (x : ℕ). Road z p x gs) (sym m) q))
 
--- the links of a road are links of its net
-pub road_links : (m : Plan) {p c : ℕ} {es : List ℕ} → Road (net_of m.layout) p c es → (i : ℕ) → i < length es → get_or es i 0 < m.layout.links
+-- the links of a road are links of its net, and end somewhere
+pub road_links : (m : Plan) {p c : ℕ} {es : List ℕ} → Road (net_of m.layout) p c es → (i : ℕ) → i < length es → get_or es i 0 < vec_len m.layout.ends
 road_links m (arrived h) i l = absurd (omega arith)
-road_links m {p} {c} (over {e = e} h r) zero l = plan_link m c p e h
+road_links m {p} {c} (over {e = e} h r) zero l = let k = plan_link m c p e h in let n = m.sized.ends in omega arith
 road_links m (over {e = e} {es = es} h r) (suc i) l = road_links m r i (omega arith)
 
 -- what the bounds tell of a pair is the sum along its road

@@ -1,5 +1,5 @@
 // The text of a hall that is laid, a fact to a line.
-ghost use Rattle.std.specs.Prelude.{◌≡◌, ℕ, ◌<◌, List, ◌++◌, IfOk, string_bytes, OnOk, slice_index, EachIndex};
+ghost use Rattle.std.specs.Prelude.{◌≡◌, ℕ, ◌<◌, List, ◌++◌, IfOk, string_bytes, OnOk, vec_len, slice_index, EachIndex};
 ghost use Rattle.text.specs.Laid.{Way, Ways, along_text, doors_text, text_of_hall, head_text, links_text, patience_in, road_text, roads_text, row_text, table_text};
 
 use crate::pieces::{Line, Spaced, write_each};
@@ -121,7 +121,7 @@ fn table(text: &mut String, hall: &Hall) -> Result<(), AllocError>
 
 // The rest of a road's line: the switches at which its links end, and the links.
 fn along(text: &mut String, hall: &Hall, road: &[u16]) -> Result<(), AllocError>
-    requires { EachIndex road.now (λ k. slice_index road.now k < hall.now.bounds.plan.layout.links) }
+    requires { EachIndex road.now (λ k. slice_index road.now k < vec_len hall.now.bounds.plan.layout.ends) }
     ensures { OnOk result (string_bytes text.new ≡ string_bytes text.old ++ along_text hall.now road.now) }
 {
     let ends = hall.bounds.plan.layout.ends.as_slice();

@@ -1,13 +1,26 @@
-use Rattle.std.proofs.Common.{◌≡◌, ℕ, ◌<◌, List, ◌++◌, length, string_bytes, codes, sym, refl, ap, ◌∙◌, append-nil, lit<, rules}
+use Rattle.std.proofs.Common.{◌≡◌, ℕ, ◌<◌, List, ◌++◌, length, string_bytes, codes, sym, refl, ap, ◌∙◌, append-nil, arith, lit<, rules}
 use borrow.Author.Tests.{tests}
 use Rattle.std.proofs.lemmas.Iterator.{YieldsList-from_slice}
-use Rattle.std.proofs.lemmas.List.{get_or_read, get_or_past}
+use Rattle.std.proofs.lemmas.Iterator.Adapters.{serves_from_places}
+use Rattle.std.proofs.lemmas.List.{get_or_default, get_or_read, get_or_past}
 use Rattle.text.specs.Laid.{end_one}
 use Rattle.text.specs.Texts.{each, none_word, numbered}
 use Rattle.text.proofs.Chains.{each_written}
 use Rattle.text.proofs.Eachs.{four, none_gone, none_there, two}
 use Rattle.text.proofs.hall.along.Goals as goal
 use Rattle.text.proofs.hall.along.Goals.{then-is_empty+in_ok-write-2, else-is_empty}
+
+pub write_each-requires-clause-can : goal.write_each-requires-clause-can
+write_each-requires-clause-can c = (
+  tt,
+  serves_from_places (YieldsList-from_slice c.args.road.now (search rules)) (λ x q k. search rules)
+      (λ x k l e _ _ _ _ _ _ _ _.
+      let h = c.requires k l in
+      let n = c.as_slice-ends.ensures.len in
+      let i = e ∙ get_or_default c.args.road.now k x.now 0 l in
+      let f : length c.map.result.f.0.now ≡ length c.as_slice-ends.result.now = search rules in
+      omega (arith, h, i)),
+)
 
 pub returns : goal.returns
 returns c =

@@ -1,4 +1,4 @@
-use Rattle.std.proofs.Common.{◌≡◌, ℕ, ◌<◌, List, ◌++◌, length, get_or, vec_items, string_bytes, sym, ap, ◌∙◌, subst}
+use Rattle.std.proofs.Common.{◌≡◌, ℕ, ◌<◌, List, ◌++◌, length, get_or, vec_items, vec_len, string_bytes, sym, ap, ◌∙◌, subst}
 use Rattle.std.specs.Option.{IfSome}
 use Rattle.net.specs.Layout.{net_of}
 use Rattle.report.specs.Lines.{road_head}
@@ -13,7 +13,7 @@ along-requires c =
     let links = vec_items c.unwrap-links.result in
     let way : Way h c.args.from c.args.place links =
     subst (λ o. IfSome o (λ v. Way h c.args.from c.args.place (vec_items v))) c.unwrap-links.ensures c.in_ok-road.ensures.road in
-    subst (λ (es : List ℕ). (i : ℕ) → i < length es → get_or es i 0 < h.bounds.plan.layout.links) (sym c.as_slice.ensures.value) (road_links h.bounds.plan way)
+    subst (λ (es : List ℕ). (i : ℕ) → i < length es → get_or es i 0 < vec_len h.bounds.plan.layout.ends) (sym c.as_slice.ensures.value) (road_links h.bounds.plan way)
 
 pub returns : goal.returns
 returns c es w =
