@@ -5,7 +5,7 @@ ghost use Rattle.table.specs.Kept.{channels, start, whole};
 ghost use Rattle.table.specs.Swept.{swept_graph, swept_up};
 
 use crate::sweep::{Onward, Sweep};
-use crate::ways::{goes_up, links, to};
+use crate::ways::{goes_up, link, links};
 use net::Entry;
 use std::alloc::{AllocError, Global};
 use tree::Tree;
@@ -37,9 +37,9 @@ impl<'a> Onward<'a> {
         if links <= c {
             c - links
         } else if goes_up(self.swept.tree, c) {
-            to(self.swept.tree, c)
+            link(self.swept.tree, c).to as usize
         } else {
-            n + to(self.swept.tree, c)
+            n + link(self.swept.tree, c).to as usize
         }
     }
 

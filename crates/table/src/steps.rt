@@ -4,7 +4,8 @@ ghost use Rattle.table.specs.Swept.{Layers, Looks, Steps, Underway, swept_graph,
 
 use crate::states::State;
 use crate::sweep::Sweep;
-use crate::ways::{from, goes_up, links, to};
+use crate::ways::{goes_up, link, links};
+use graph::Link;
 use std::alloc::{AllocError, Global};
 use tree::Tree;
 
@@ -38,14 +39,14 @@ impl<'a> Sweep<'a> {
         ensures { Looks self.old k self.new }
     {
         let n = self.tree.cabling.switches;
-        let begin = from(self.tree, k);
-        let end = to(self.tree, k);
-        let link = k as u16;
+        let Link { from, to } = link(self.tree, k);
+        let (begin, end) = (from as usize, to as usize);
+        let number = k as u16;
         if goes_up(self.tree, k) {
-            self.step(begin, end, link);
+            self.step(begin, end, number);
         } else {
-            self.step(begin, n + end, link);
-            self.step(n + begin, n + end, link);
+            self.step(begin, n + end, number);
+            self.step(n + begin, n + end, number);
         }
     }
 
