@@ -11,7 +11,7 @@ use Rattle.graph.proofs.Bits.{each_in}
 use Rattle.tree.specs.Planted.{graph_in, up_in}
 use Rattle.tree.specs.declared.planted.Tree.{Tree}
 use Rattle.table.specs.Kept.{whole, met, kept}
-use Rattle.table.specs.Marked.{AllMet, RowOf}
+use Rattle.table.specs.Marked.{AllMet}
 use Rattle.table.proofs.Parts.{put_in, put_other}
 use Rattle.table.proofs.Follow.{comes_met, same}
 use Rattle.table.proofs.Trees.{near, few}
