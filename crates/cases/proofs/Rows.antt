@@ -5,13 +5,12 @@ use Rattle.roads.specs.Numbers.{least, some, every, greatest}
 use Rattle.roads.specs.Roads.{within, shortest, first}
 use Rattle.machine.specs.Round.{all_handed, all_served, look, play}
 use Rattle.machine.specs.Waits.{feeds, feeders, worst, within as patient, onward}
-use Rattle.graph.specs.Cables.{froms, tos}
 use Rattle.table.specs.Kept.{passes, met}
 use Rattle.waits.specs.Laws.{arrived, over}
 use Rattle.cases.specs.Cases.{Holds, CasesHold, one_switch, two_switches, two_cables, star, ring_of_four}
 
 pub cases_hold : CasesHold
-unfolding froms tos least some every greatest within shortest first passes met order insert_by all_handed all_served look play feeds feeders worst patient onward
+unfolding least some every greatest within shortest first passes met order insert_by all_handed all_served look play feeds feeders worst patient onward
 cases_hold = (one, (two, (parallel, (leaves, (four, tt)))))
   where
     one : Holds one_switch

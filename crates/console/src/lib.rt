@@ -8,3 +8,6 @@ mod given;
 pub use ends::{end, put};
 pub use failure::Failure;
 pub use given::{read, words};
+
+#[cfg(test)]
+mod tests;

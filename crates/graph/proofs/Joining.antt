@@ -10,7 +10,7 @@ use Rattle.roads.proofs.Roads.{shortest_le, shortest_within, one_so_short}
 use Rattle.roads.proofs.Soon.{shortest_soon}
 use Rattle.graph.specs.Sets.{has}
 use Rattle.graph.specs.Graph.{Graph, TwoWay, partner}
-use Rattle.graph.specs.Tree.{plain, at, distance, reach, Joined, Lost}
+use Rattle.graph.specs.Tree.{plain, at, distance, reach, root, Joined, Lost}
 use Rattle.graph.specs.Layers.{Finds, Reached, Linked}
 
 -- what `find` gives
@@ -87,8 +87,9 @@ module _ (g : Graph) where
               let w = shortest_within (plain g) (at s) g.n (g.n - 1) 0 d (omega arith) in
               both_ways (has (get_or sets 0 0) s) (not-true (has (get_or sets 0 0) s) (f.passes s<n)) (h 0 s some s<n ∙ w)
 
-pub joined_from : (g : Graph) → Linked g → (r : ℕ) → r < g.n → reach g r < g.n → Joined g
-joined_from g k r l h = all_joined g k.two k.ends.to r l h
+-- a switch that reaches all makes all joined
+pub joins_by : (g : Graph) → Linked g → (r : ℕ) → r < g.n → (r ≡ root g) × (reach g r < g.n) → (r ≡ root g) × (r < g.n) × Joined g
+joins_by g k r l h = (h.0, l, all_joined g k.two k.ends.to r l h.1)
 
 module _ (g : Graph) (k : Linked g) (sets : List ℕ) (far : (s : ℕ) → s < g.n → g.n ≤ reach g s) (h : Reached g (g.n - 1) sets) where
   pub lost_from : (s : ℕ) → Least (λ i. not (has (get_or sets 0 0) i)) g.n s → Lost g s

@@ -1,12 +1,11 @@
--- The links of a list of cables: there are two for each, there_and_back between switches that are there, and one goes back where the other came from. Assumes nothing.
-use Rattle.std.proofs.Common.{◌≡◌, ℕ, zero, suc, ◌+◌, ◌-◌, ◌*◌, ◌%◌, ◌<◌, ◌≤◌, eqb, List, [], ◌∷◌, ◌++◌, map, length, get_or, take, sym, refl, ap, ◌∙◌, subst, ⊎_elim, arith}
+-- The links of a list of cables: there are two for each, both between switches that are there, and one goes back where the other came from. Assumes nothing.
+use Rattle.std.proofs.Common.{◌≡◌, ℕ, zero, suc, ◌+◌, ◌-◌, ◌*◌, ◌%◌, ◌<◌, ◌≤◌, eqb, List, [], ◌∷◌, map, length, get_or, sym, refl, ap, subst, ⊎_elim, arith}
 use Rattle.std.proofs.lemmas.Bool.{cases_eq, cases_lt, cond-true, cond-false, eq-eqb, ne_eqb}
 use Rattle.std.proofs.Math.ListN.{get_or-map, length-map}
-use Rattle.std.proofs.lemmas.List.{flat_map_more, take_more}
 use Rattle.net.specs.declared.Cable.{Cable}
 use Rattle.graph.specs.declared.link.Link.{Link}
-use Rattle.graph.specs.Graph.{TwoWay, Ends, partner, graph_by, graph_with, no_link}
-use Rattle.graph.specs.Cables.{froms, tos, graph_of, there_and_back, links_of}
+use Rattle.graph.specs.Graph.{TwoWay, Ends, partner, graph_with, no_link}
+use Rattle.graph.specs.Cables.{graph_of, links_of}
 use Rattle.graph.specs.Layers.{Linked}
 use Rattle.graph.specs.Refusal.{Fine, no_cable}
 
@@ -23,28 +22,22 @@ link_from n ls e k l = let a = from_at ls k in let b = e.from k (rw (length-map 
 pub link_to : (n : ℕ) (ls : List Link) → Ends (graph_with n ls) → (k : ℕ) → k < length ls → (get_or ls k no_link).to < n
 link_to n ls e k l = let a = to_at ls k in let b = e.to k (rw (length-map {A = Link}) l) in omega arith
 
-froms_links : (cs : List Cable) → map (λ l. l.from) (links_of cs) ≡ froms cs
-unfolding froms
-froms_links [] = refl
-froms_links (c ∷ cs) = ap (λ (xs : List ℕ). c.a ∷ c.b ∷ xs) (froms_links cs)
+abbrev froms : List Cable → List ℕ
+froms cs = map (λ l. l.from) (links_of cs)
 
-tos_links : (cs : List Cable) → map (λ l. l.to) (links_of cs) ≡ tos cs
-unfolding tos
-tos_links [] = refl
-tos_links (c ∷ cs) = ap (λ (xs : List ℕ). c.b ∷ c.a ∷ xs) (tos_links cs)
+abbrev tos : List Cable → List ℕ
+tos cs = map (λ l. l.to) (links_of cs)
 
 pub graph_links : (n : ℕ) (cs : List Cable) → graph_with n (links_of cs) ≡ graph_of n cs
-graph_links n cs = ap (λ (fs : List ℕ). graph_by n fs (map (λ l. l.to) (links_of cs))) (froms_links cs) ∙ ap (λ (ts : List ℕ). graph_by n (froms cs) ts) (tos_links cs)
+graph_links n cs = refl
 
-pub length_froms : (cs : List Cable) → length (froms cs) ≡ 2 * length cs
-unfolding froms
+length_froms : (cs : List Cable) → length (froms cs) ≡ 2 * length cs
 length_froms [] = refl
 length_froms (c ∷ cs) = let h = length_froms cs in omega arith
 
--- what holds of there_and_back links of every cable holds of every link
+-- what holds of both links of every cable holds of every link
 each_link : (P : ℕ → ℕ → Type 0) (cs : List Cable) → ((i : ℕ) → i < length cs → P (get_or cs i no_cable).a (get_or cs i no_cable).b × P (get_or cs i no_cable).b (get_or cs i no_cable).a) →
     (k : ℕ) → k < length (froms cs) → P (get_or (froms cs) k 0) (get_or (tos cs) k 0)
-unfolding froms tos
 each_link P [] h k l = absurd (omega arith)
 each_link P (c ∷ cs) h zero l = (h 0 (omega arith)).0
 each_link P (c ∷ cs) h (suc zero) l = (h 0 (omega arith)).1
@@ -80,7 +73,6 @@ later_partner k = ⊎_elim even odd (cases_eq (k % 2) 0)
         omega arith
 
 pub two_way : (n : ℕ) (cs : List Cable) → TwoWay (graph_of n cs)
-unfolding froms tos
 two_way n [] k l = absurd (omega arith)
 two_way n (c ∷ cs) zero l = (omega arith, refl, refl)
 two_way n (c ∷ cs) (suc zero) l = (omega arith, refl, refl)
@@ -92,5 +84,5 @@ pub linked_of : (n : ℕ) (cs : List Cable) (ls : List Link) → Fine n cs → l
 linked_of n cs ls f q =
     let l = length_froms cs in
     let s = f.sizes.short in
-    subst Linked (sym (ap (graph_with n) q ∙ graph_links n cs))
+    subst Linked (sym (ap (graph_with n) q))
     (record { some = f.sizes.some; few = f.sizes.few; short = omega arith; ends = ends_of n cs f; apart = apart_of n cs f; two = two_way n cs })

@@ -1,5 +1,5 @@
 -- The first set that is full belongs to the root; the number of layers that lack the root is the level. Assumes nothing.
-use Rattle.std.proofs.Common.{◌≡◌, ℕ, suc, ◌+◌, ◌-◌, ◌<◌, ◌≤◌, Bool, true, false, cond, leb, List, length, get_or, Option, Some, None, sym, refl, ap, ◌∙◌, subst, ⊎_elim, arith}
+use Rattle.std.proofs.Common.{◌≡◌, ℕ, suc, ◌+◌, ◌<◌, ◌≤◌, Bool, true, false, cond, leb, List, length, get_or, sym, refl, ap, ◌∙◌, subst, ⊎_elim, arith}
 use Rattle.std.proofs.lemmas.Bool.{cases_lt, cases_Bool, le-leb, lt-leb, leb-true, leb-false, both_ways, cond-true, cond-false}
 use Rattle.roads.specs.Numbers.{Least, every}
 use Rattle.roads.specs.Roads.{within}
@@ -8,7 +8,7 @@ use Rattle.roads.proofs.Roads.{shortest_le, shortest_within, shortest_is, within
 use Rattle.graph.specs.Sets.{has}
 use Rattle.graph.specs.Graph.{Graph}
 use Rattle.graph.specs.Tree.{plain, at, distance, reach, root, level}
-use Rattle.graph.specs.Layers.{Finds, Reached, Center, Levelled}
+use Rattle.graph.specs.Layers.{Reached, Levelled}
 
 module _ (g : Graph) where
   -- a set is full at layer j just when the switch's greatest distance is at most j
@@ -88,21 +88,11 @@ pub record Late (g : Graph) (j : ℕ) (sets : List ℕ) : Type 0 where
   pub late : (t : ℕ) → t < g.n → j ≤ reach g t
 
 module _ (g : Graph) (j : ℕ) (sets : List ℕ) (h : Late g j sets) (o : j < g.n) where
-  pub center_found : (r : ℕ) → r < g.n → Least (λ s. every (has (get_or sets s 0)) g.n) g.n r → Center g sets (Some r)
-  center_found r l f = let a = found_root g j sets h.reached o h.late r f l in (a.0, l, a.1)
+  pub root_found : (r : ℕ) → r < g.n → Least (λ s. every (has (get_or sets s 0)) g.n) g.n r → (r ≡ root g) × (reach g r < g.n)
+  root_found r l f = found_root g j sets h.reached o h.late r f l
 
   pub none_yet : Least (λ s. every (has (get_or sets s 0)) g.n) g.n g.n → (t : ℕ) → t < g.n → suc j ≤ reach g t
   none_yet f = later g j sets h.reached o h.late g.n f refl
-
-  pub center_none : j ≡ g.n - 1 → Least (λ s. every (has (get_or sets s 0)) g.n) g.n g.n → Center g sets None
-  center_none e f = (
-    (λ s l. let b = none_yet f s l in omega arith),
-    subst (λ (k : ℕ). Reached g k sets) e h.reached,
-  )
-
-  pub center_by : j ≡ g.n - 1 → (r : Option ℕ) → Finds (λ s. every (has (get_or sets s 0)) g.n) g.n r → Center g sets r
-  center_by e None f = center_none e f
-  center_by e (Some r) f = center_found r f.0 f.1
 
   pub late_more : (next : List ℕ) → Least (λ s. every (has (get_or sets s 0)) g.n) g.n g.n → ((k : ℕ) → Reached g k sets → Reached g (suc k) next) → Late g (suc j) next
   late_more next f step = record { reached = step j h.reached; late = none_yet f }

@@ -1,10 +1,10 @@
 -- What the code's sets hold, layer by layer. Assumes nothing.
-use Rattle.std.specs.Prelude.{◌≡◌, ℕ, ◌-◌, ◌<◌, ◌≤◌, Bool, ◌&&◌, ◌||◌, List, length, Option, MatchOption, ◌==◌, ◌≢◌, slice_index}
+use Rattle.std.specs.Prelude.{◌≡◌, ℕ, ◌<◌, ◌≤◌, Bool, ◌&&◌, ◌||◌, List, length, Option, MatchOption, ◌==◌, ◌≢◌, slice_index}
 use Rattle.roads.specs.Numbers.{Least, some}
 use Rattle.roads.specs.Roads.{within}
 use Rattle.graph.specs.Sets.{has}
 use Rattle.graph.specs.Graph.{Graph, Ends, TwoWay}
-use Rattle.graph.specs.Tree.{plain, at, root, reach, level}
+use Rattle.graph.specs.Tree.{plain, at, level}
 
 -- the set of switch s has those switches that are at most j cables away from s
 abbrev pub Reached : Graph → ℕ → List ℕ → Type 0
@@ -18,12 +18,6 @@ Added g old k sets = (s t : ℕ) → s < length old → t < 64 →
 -- the least number below n that passes f, if one does
 abbrev pub Finds : (ℕ → Bool) → ℕ → Option ℕ → Type 0
 Finds f n r = MatchOption r (Least f n n) (λ k. (k < n) × Least f n k)
-
--- the root, found before n layers are full; or no switch ever reaches all, and the sets tell what is reached
-abbrev pub Center : Graph → List ℕ → Option ℕ → Type 0
-Center g sets r = MatchOption r
-    (((s : ℕ) → s < g.n → g.n ≤ reach g s) × Reached g (g.n - 1) sets)
-    (λ s. (s ≡ root g) × (s < g.n) × (reach g s < g.n))
 
 -- everything that is known of the links of a sound list of cables
 pub record Linked (g : Graph) : Type 0 where

@@ -40,17 +40,18 @@ Refuses n cs (Loop k) = Until n cs k × ((get_or cs k no_cable).a < n) × ((get_
 Refuses n cs (Lost s) = Fine n cs × tree.Lost (graph_of n cs) s
 Refuses n cs Memory = Fine n cs
 
+-- the graph of an accepted list
+abbrev pub graph_of_cabling : Cabling → Graph
+graph_of_cabling g = graph_with g.switches (vec_items g.links)
+
 -- what is made of an accepted list: its links, and the root of its tree
 pub record Accepts (n : ℕ) (cs : List Cable) (g : Cabling) : Type 0 where
   pub fine : Fine n cs
   pub switches : g.switches ≡ n
   pub links : vec_items g.links ≡ links_of cs
+  pub graph : graph_of_cabling g ≡ graph_of n cs
   pub root : g.root ≡ root (graph_of n cs)
   pub joined : Joined (graph_of n cs)
-
--- the graph of an accepted list
-abbrev pub graph_of_cabling : Cabling → Graph
-graph_of_cabling g = graph_with g.switches (vec_items g.links)
 
 -- the list has each switch's level in the tree with root r
 pub record Levels (g : Cabling) (r : ℕ) (ls : List ℕ) : Type 0 where

@@ -1,7 +1,7 @@
 ghost use Rattle.std.specs.Prelude.{◌≡◌, ℕ, suc, ◌+◌, ◌^◌, ◌<◌, ◌≤◌, map, length, All, vec_len, IfOk, MatchResult, if◌then◌else◌, slice_index};
 ghost use Rattle.std.specs.List.{range_with_len};
 ghost use Rattle.graph.specs.Graph.{graph_with};
-ghost use Rattle.graph.specs.Layers.{Center, Finds, Levelled, Linked, Reached};
+ghost use Rattle.graph.specs.Layers.{Finds, Levelled, Linked, Reached};
 ghost use Rattle.graph.specs.Sets.{has};
 ghost use Rattle.graph.specs.Tree.{Joined, Lost, root};
 ghost use Rattle.roads.specs.Numbers.{every};
@@ -75,27 +75,18 @@ impl<'a> Layers<'a> {
         self.sets.iter().position(|set| set.is_full(switches))
     }
 
-    // The root: the first switch, layer by layer, that has reached all.
-    fn center(&mut self) -> Option<usize>
-        requires { Reached (over self.old) 0 self.old.sets.items }
-        ensures same { over self.new ≡ over self.old }
-        ensures center { Center (over self.new) self.new.sets.items result }
-    {
-        for _j in 1..self.sets.len() {
-            if let Some(root) = self.first_full() {
-                return Some(root);
-            }
-            self.layer();
-        }
-        self.first_full()
-    }
-
-    // The root, if all switches are joined.
+    // The root, the first switch, layer by layer, that has reached all; or the lowest that switch 0 never reaches.
     pub(crate) fn join(mut self) -> Result<usize, NotJoined>
         requires { Reached (over self) 0 self.sets.items }
         ensures { MatchResult result (λ r. (r ≡ root (over self.entry)) × (r < (over self.entry).n) × Joined (over self.entry)) (λ e. Lost (over self.entry) e.lost) }
     {
-        match self.center() {
+        for _j in 1..self.sets.len() {
+            if let Some(root) = self.first_full() {
+                return Ok(root);
+            }
+            self.layer();
+        }
+        match self.first_full() {
             Some(root) => Ok(root),
             None => Err(NotJoined {
                 lost: self.sets[0].lowest_missing(self.sets.len()).unwrap(),

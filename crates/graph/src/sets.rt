@@ -1,6 +1,6 @@
 ghost use Rattle.std.specs.Prelude.{◌≡◌, ℕ, ◌^◌, ◌<◌, ◌≤◌, bit_or, find, not};
 ghost use Rattle.std.specs.List.{range_with_len};
-ghost use Rattle.graph.specs.Sets.{has as «has-spec»};
+ghost use Rattle.graph.specs.Sets as sets;
 ghost use Rattle.roads.specs.Numbers.{every};
 
 use std::marker::Model;
@@ -35,7 +35,7 @@ impl Set {
     }
 
     pub(crate) fn has(self, k: usize) -> bool
-        ensures { result ≡ «has-spec» self k }
+        ensures { result ≡ sets.has self k }
     {
         has(self.bits, k)
     }
@@ -49,7 +49,7 @@ impl Set {
     // Whether it has every number below n.
     pub(crate) fn is_full(self, n: usize) -> bool
         requires { (0 < n) × (n ≤ 64) }
-        ensures { result ≡ every («has-spec» self) n }
+        ensures { result ≡ every (sets.has self) n }
     {
         let half = 1u64 << (n - 1);
         let all = half - 1 + half;
@@ -58,7 +58,7 @@ impl Set {
 
     // The lowest number below n that it lacks.
     pub(crate) fn lowest_missing(self, n: usize) -> Option<usize>
-        ensures { result ≡ find (λ k. not («has-spec» self k)) (range_with_len 0 n) }
+        ensures { result ≡ find (λ k. not (sets.has self k)) (range_with_len 0 n) }
     {
         (0..n).find(|&k| !self.has(k))
     }
@@ -66,7 +66,7 @@ impl Set {
 
 // Whether the set whose bits these are has k.
 pub fn has(set: u64, k: usize) -> bool
-    ensures { result ≡ «has-spec» set k }
+    ensures { result ≡ sets.has set k }
 {
     k < 64 && (set >> k) % 2 == 1
 }

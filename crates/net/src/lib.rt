@@ -11,6 +11,7 @@ mod layout;
 pub mod limits;
 mod plan;
 mod planning;
+mod rows;
 mod serving;
 
 pub use error::PlanError;

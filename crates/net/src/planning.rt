@@ -3,6 +3,7 @@ ghost use Rattle.net.specs.Layout.{Sized, net_of};
 ghost use Rattle.net.specs.Net.{Good};
 ghost use Rattle.net.specs.Planned.{Refuses};
 
+use crate::rows::Rows;
 use crate::{Entry, Layout, Plan, PlanError, serving_order};
 use std::alloc::Global;
 
@@ -20,6 +21,9 @@ impl Plan {
     pub fn entry(&self, c: usize, p: usize) -> Entry
         ensures { result ≡ (net_of self.now.layout).next c p }
     {
-        self.layout.entry(c, p)
+        let rows = Rows {
+            layout: &self.layout,
+        };
+        rows.entry(c, p)
     }
 }

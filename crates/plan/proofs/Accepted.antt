@@ -1,11 +1,10 @@
 -- Why an accepted list of cables has a tree, a plan and bounds, and what its refusals say. Assumes nothing.
-use Rattle.std.proofs.Common.{◌≡◌, ℕ, zero, suc, ◌+◌, ◌<◌, ◌≤◌, Bool, true, false, cond, ltb, ◌⊎◌, List, [], ◌∷◌, map, length, get_or, Ok, Err, vec_items, sym, refl, ap, ◌∙◌, subst, inl, inr, ⊎_elim, arith}
-use Rattle.std.proofs.lemmas.List.{length-map}
-use Rattle.std.proofs.lemmas.Bool.{and_from, both_ways, cases_Bool, cases_lt, or_from, or_left, or_right, cond-true, cond-false, lt-ltb, le-ltb, le-leb, lt-leb}
+use Rattle.std.proofs.Common.{◌≡◌, ℕ, ◌+◌, ◌<◌, ◌≤◌, Bool, true, false, cond, ltb, ◌⊎◌, List, length, Ok, Err, vec_items, sym, ap, ◌∙◌, subst, inl, inr, ⊎_elim, arith}
+use Rattle.std.proofs.lemmas.Bool.{both_ways, cases_Bool, cases_lt, or_from, or_left, or_right, cond-true, cond-false, lt-ltb, le-ltb, le-leb, lt-leb}
 use Rattle.net.specs.declared.layout.Layout.{Layout}
 use Rattle.net.specs.declared.plan.Plan.{Plan}
-use Rattle.net.specs.Layout.{FirstOfAll, net_of, rises_to, rises_at}
-use Rattle.net.specs.Net.{Net, Good, Leads, channels}
+use Rattle.net.specs.Layout.{net_of}
+use Rattle.net.specs.Net.{Net, Leads, channels}
 use Rattle.machine.specs.Waits.{patience, wait}
 use Rattle.roads.specs.Numbers.{some}
 use Rattle.roads.proofs.Below.{least_is, some_from, some_one}
@@ -14,7 +13,6 @@ use Rattle.graph.specs.Graph.{Graph, graph_with}
 use Rattle.graph.specs.declared.cabling.Cabling.{Cabling}
 use Rattle.graph.specs.declared.link.Link.{Link}
 use Rattle.graph.proofs.Links.{graph_links}
-use Rattle.net.specs.declared.Cable.{Cable}
 use Rattle.graph.specs.Refusal.{Accepts, graph_of_cabling}
 use Rattle.graph.specs.Tree.{Joined, Lost, at, distance, plain}
 use Rattle.tree.specs.declared.planted.Tree.{Tree}
@@ -29,9 +27,7 @@ use Rattle.wire.specs.declared.fault.Refusal.{Refusal}
 use Rattle.wire.specs.declared.fault.WireError.{WireError}
 use Rattle.wire.specs.declared.fault.WireError.TheVariants.{Refused, Memory}
 use Rattle.wire.specs.Faults.{refusal}
-use Rattle.net.specs.Cables.{Joins}
 use Rattle.wire.specs.Cables.{Cables, Proper, cables_read}
-use Rattle.wire.specs.Pairs.{Each}
 use Rattle.plan.specs.Halls.{graph_for, judged, lost, hall_net, read_hall, then_judged, too_long}
 use Rattle.plan.specs.Built.{Drawn, Grown, Late, Refuses, Serving, Severed}
 

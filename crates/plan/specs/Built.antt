@@ -13,7 +13,8 @@ use Rattle.wire.specs.declared.fault.Fault.TheVariants.{Apart, TooLong}
 use Rattle.wire.specs.declared.fault.WireError.{WireError}
 use Rattle.wire.specs.declared.fault.WireError.TheVariants.{Refused, Memory}
 use Rattle.wire.specs.Faults.{refusal}
-use Rattle.wire.specs.Cables.{Cables, listed}
+use Rattle.wire.specs.Cables.{Cables}
+use Rattle.wire.specs.Listed.{listed}
 use Rattle.plan.specs.declared.hall.Hall.{Hall}
 use Rattle.plan.specs.Halls.{graph_for, hall_net, read_hall}
 

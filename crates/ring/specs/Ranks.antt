@@ -5,7 +5,7 @@ use Rattle.net.specs.declared.Entry.TheVariants.{Link}
 use Rattle.net.specs.Layout.{entry_at}
 use Rattle.net.specs.Net.{Net, Good}
 use Rattle.ring.specs.Ring.{NoRing}
-use Rattle.ring.specs.Table.{Hands, InRange, Sized}
+use Rattle.ring.specs.Table.{Hands}
 
 -- Ranks rise wherever blocks are handed on; 0 where none hands blocks to a channel, else one more than the largest of those
 -- that do. No ranks that rise are lower.
@@ -47,8 +47,6 @@ Below es m c d e = (d < c) × Hands es m d e
 
 -- a table without a ring, and ranks that can be raised
 pub record Ready (es : List Entry) (n m : ℕ) (r : List ℕ) : Type 0 where
-  pub sized : Sized es n m
-  pub range : InRange es n m
   pub free : NoRing (Hands es m)
   pub size : length r ≡ n
   pub backed : Backed (Hands es m) r

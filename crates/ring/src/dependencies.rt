@@ -1,4 +1,4 @@
-ghost use Rattle.std.specs.Prelude.{◌≡◌, ℕ, ◌*◌, ◌<◌, ◌≤◌, ◌↔◌, ◌+◌, true, false, length, IfOk, IsTrue, slice_index_or, slice_set, vec_len};
+ghost use Rattle.std.specs.Prelude.{◌≡◌, ℕ, ◌*◌, ◌<◌, ◌≤◌, ◌↔◌, ◌+◌, true, false, IfOk, IsTrue, slice_index_or, slice_set, vec_len};
 
 use crate::foreign::ForeignTable;
 use net::Entry;

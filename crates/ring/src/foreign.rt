@@ -1,4 +1,4 @@
-ghost use Rattle.std.specs.Prelude.{◌≡◌, ◌≢◌, ◌<◌, ◌≤◌, ◌*◌, length, MatchOption, MatchResult};
+ghost use Rattle.std.specs.Prelude.{◌≡◌, ◌<◌, MatchOption, MatchResult};
 ghost use Rattle.std.proofs.Props.{props};
 ghost use Rattle.ring.specs.Answer.{Refuses};
 ghost use Rattle.ring.specs.Table.{FirstStray, InRange, IsRow, Sized, names};

@@ -1,4 +1,4 @@
-ghost use Rattle.std.specs.Prelude.{◌≡◌, ℕ, ◌<◌, ◌≤◌, ◌↔◌, IfOk, IsTrue, MatchOption, slice_index};
+ghost use Rattle.std.specs.Prelude.{◌≡◌, ◌<◌, ◌≤◌, ◌↔◌, IfOk, IsTrue, MatchOption, slice_index};
 ghost use Rattle.ring.specs.Down.{GoesOn, LowestRing, NextOn};
 ghost use Rattle.ring.specs.Graph.{FeedsIn};
 ghost use Rattle.ring.specs.Layers.{Near};

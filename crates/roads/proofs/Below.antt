@@ -42,27 +42,9 @@ least_passes f n l = (least_law f n).passes l
 pub least_below : (f : ℕ → Bool) (n k : ℕ) → k < least f n → f k ≡ false
 least_below f n k l = (least_law f n).none k l
 
-pub least_fits : (f : ℕ → Bool) (n : ℕ) → least f n ≤ n
-least_fits f n = (least_law f n).fits
-
 -- what passes is not below the least
 pub least_first : (f : ℕ → Bool) (n k : ℕ) → f k ≡ true → least f n ≤ k
 least_first f n k e = ⊎_elim (λ (l : k < least f n). absurd (both_ways (f k) (least_below f n k l) e)) (λ l. l) (cases_lt k (least f n))
-
--- one more to look at
-pub least_more : (f : ℕ → Bool) (n r : ℕ) → Least f n r → Least f (suc n) (cond (f r) r (suc n)) ⊎ ((r < n) × Least f (suc n) r)
-least_more f n r h = ⊎_elim small big (cases_lt r n)
-  where
-    small : r < n → Least f (suc n) (cond (f r) r (suc n)) ⊎ ((r < n) × Least f (suc n) r)
-    small l = inr (l, record { fits = omega arith; passes = λ _. h.passes l; none = h.none })
-
-    big : n ≤ r → Least f (suc n) (cond (f r) r (suc n)) ⊎ ((r < n) × Least f (suc n) r)
-    big l =
-        let a = h.fits in
-        let e : r ≡ n = omega arith in
-        inl (cond_both (f r) r (suc n) (λ v. Least f (suc n) v)
-        (λ t. record { fits = omega arith; passes = λ _. t; none = h.none })
-        (λ t. record { fits = omega arith; passes = λ m. absurd (omega arith); none = λ k m. ⊎_elim (λ (o : k < r). h.none k o) (λ o. let q : r ≡ k = omega arith in subst (λ (i : ℕ). f i ≡ false) q t) (cases_lt k r) }))
 
 pub some_from : (f : ℕ → Bool) (n k : ℕ) → k < n → f k ≡ true → some f n ≡ true
 unfolding some

@@ -4,7 +4,7 @@ use Rattle.std.proofs.lemmas.Bool.{cases_Bool, cases_lt, both_ways, or_cases, or
 use Rattle.roads.specs.Numbers.{some, Least}
 use Rattle.roads.specs.Roads.{Moves, Road, there, along, within, shortest, first}
 use Rattle.roads.specs.Laws.{ShortestRoads}
-use Rattle.roads.proofs.Below.{least_law, least_is, least_passes, least_below, least_first, some_from, some_one}
+use Rattle.roads.proofs.Below.{least_law, least_is, least_passes, least_first, some_from, some_one}
 
 -- link k leads on from x to where a road of at most n links begins
 abbrev pub goes : {S : Type 0} → Moves S → (S → Bool) → ℕ → S → ℕ → Bool
@@ -86,21 +86,9 @@ module _ {S : Type 0} (m : Moves S) (goal : S → Bool) where
   unfolding shortest
   shortest_within most n x l h = within_more (shortest m goal most x) n x h (least_passes (λ i. within m goal i x) most l)
 
-  pub shortest_not : (most n : ℕ) (x : S) → n < shortest m goal most x → within m goal n x ≡ false
-  unfolding shortest
-  shortest_not most n x l = least_below (λ i. within m goal i x) most n l
-
-  pub shortest_fits : (most : ℕ) (x : S) → shortest m goal most x ≤ most
-  unfolding shortest
-  shortest_fits most x = (least_law (λ i. within m goal i x) most).fits
-
   pub shortest_is : (most r : ℕ) (x : S) → Least (λ i. within m goal i x) most r → r ≡ shortest m goal most x
   unfolding shortest
   shortest_is most r x h = least_is (λ i. within m goal i x) most r h
-
-  pub shortest_least : (most : ℕ) (x : S) → Least (λ i. within m goal i x) most (shortest m goal most x)
-  unfolding shortest
-  shortest_least most x = least_law (λ i. within m goal i x) most
 
   pub none_shorter : (most : ℕ) (x : S) (ks : List ℕ) → Road m goal x ks → shortest m goal most x ≤ length ks
   none_shorter most x ks r = shortest_le most (length ks) x (road_within (length ks) x ks r (omega arith))

@@ -1,9 +1,14 @@
 -- The lists of a new fabric. Assumes nothing.
-use Rattle.std.proofs.Common.{◌≡◌, ℕ, zero, suc, ◌+◌, ◌<◌, ◌≤◌, cond, ltb, ◌⊎◌, List, [], ◌∷◌, ◌++◌, map, get_or, replicate, sym, refl, ap, ◌∙◌, inl, inr, arith}
+use Rattle.std.proofs.Common.{◌≡◌, ℕ, zero, suc, ◌+◌, ◌<◌, ◌≤◌, cond, ltb, ◌⊎◌, List, [], ◌∷◌, ◌++◌, map, get_or, replicate, Option, sym, refl, ap, ◌∙◌, inl, inr, arith}
 use mathlib.Core.Path.{fun_ext}
 use Rattle.std.proofs.lemmas.List.{append-nil, get_or_past, get_or-replicate, length-replicate, replicate-append-replicate}
 use Rattle.std.proofs.lemmas.Bool.{cases_lt, cond-true, cond-false, lt-ltb, le-ltb}
+use Rattle.std.proofs.lemmas.Iterator.{YieldsList, YieldsList-from_map_by, items_from_drains, maps}
+use Rattle.std.specs.Fn.{Called}
+use Rattle.std.specs.Iterator.{DrainsIf}
+use Rattle.std.specs.Iterator.Adapters.{map_source, map_callee}
 use Rattle.std.specs.List.{range_with_len}
+use denote.Param.Members.{Mut}
 use Rattle.net.specs.declared.Block.{Block}
 use Rattle.net.specs.declared.Came.{Came}
 use Rattle.net.specs.Net.{Net}
@@ -13,10 +18,16 @@ use Rattle.round.specs.Link.{queue_of, free_of, turn_of}
 use Rattle.round.specs.declared.link.Link.{Link}
 use Rattle.round.proofs.States.{same_made}
 
--- what is the same for each number of a range
-pub same_for_each : {A : Type 0} (k n : ℕ) (a : A) → map (λ _. a) (range_with_len k n) ≡ replicate n a
+same_for_each : {A : Type 0} (k n : ℕ) (a : A) → map (λ _. a) (range_with_len k n) ≡ replicate n a
 same_for_each k zero a = refl
 same_for_each k (suc n) a = ap (λ xs. a ∷ xs) (same_for_each (k + 1) n a)
+
+-- what a closure makes for each number below n, where w reads the same of all
+pub made_for_each : {S A B F : Type 0} {steps : S → Option ℕ → S → Type 0} {v : ℕ → ℕ} {s : _} {g : Mut F (ℕ × Unit {0}) A} {f : F} (n : ℕ) (w : A → B) (b : B) →
+    YieldsList steps v (map_source s) (range_with_len 0 n) → map_callee s ≡ f → ((x : ℕ) (y : A) (q : F) → Called g f (x, tt) y q → (q ≡ f) × (w y ≡ b)) →
+    (xs us : List A) → DrainsIf (maps steps g) (Unit {0}) s xs → us ≡ xs → map w us ≡ replicate n b
+made_for_each {g = g} n w b y c h xs us d e =
+    ap (map w) e ∙ items_from_drains xs d (YieldsList-from_map_by g w (λ _. b) y c h) ∙ same_for_each 0 n b
 
 nothing_there : {A : Type 0} (m n : ℕ) (a : A) → ◌≡◌ {A = ℕ → A} (λ c. get_or (replicate m a ++ replicate n a) c a) (λ c. a)
 nothing_there m n a = fun_ext (λ c. ap (λ us. get_or us c a) (replicate-append-replicate m n a) ∙ go c (cases_lt c (m + n)))

@@ -30,7 +30,7 @@ pub comes_on : (t : ℕ → ℕ → Entry) (p d c e : ℕ) → Comes t p c e →
 comes_on t p d c e same q = by q same
 comes_on t p d c e (by {d = b} h r) q = by h (comes_on t p d b e r q)
 
-linked : (e : Entry) (d k : ℕ) → e ≡ Link d → e ≡ Link k → d ≡ k
+pub linked : (e : Entry) (d k : ℕ) → e ≡ Link d → e ≡ Link k → d ≡ k
 linked e d k p q = cc
 
 pub not_both : (e : Entry) (k : ℕ) → e ≡ Here → e ≡ Link k → ⊥

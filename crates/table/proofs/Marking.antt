@@ -1,58 +1,17 @@
 -- A road walked from a door: what is marked is met, and marks are closed under going on. Assumes nothing.
-use Rattle.std.proofs.Common.{◌≡◌, ℕ, ◌+◌, ◌-◌, ◌*◌, ◌%◌, ◌^◌, ◌<◌, ◌≤◌, Bool, true, false, ◌&&◌, ◌||◌, eqb, ◌⊎◌, List, [], length, get_or, set, vec_items, sym, refl, ap, ◌∙◌, subst, inl, inr, ⊎_elim, arith}
+use Rattle.std.proofs.Common.{◌≡◌, ℕ, ◌+◌, ◌*◌, ◌%◌, ◌^◌, ◌<◌, ◌≤◌, Bool, true, false, ◌&&◌, ◌||◌, eqb, ◌⊎◌, List, length, get_or, set, sym, refl, ap, ◌∙◌, subst, inl, inr, ⊎_elim, arith}
 use lib.Bits.{bit_or}
 use Rattle.std.proofs.lemmas.List.{get_or-set_same, get_or-set_other}
 use Rattle.std.proofs.lemmas.Bool.{eqb-true, eq-eqb, ne_eqb, cases_Bool, cases_eq, and_parts, and_from, and_left, or_cases, or_left, or_right, both_ways}
-use Rattle.net.specs.declared.Entry.{Entry}
 use Rattle.net.specs.declared.Entry.TheVariants.{Here, Link}
 use Rattle.roads.specs.Roads.{shortest}
 use Rattle.graph.specs.Graph.{Graph}
 use Rattle.graph.specs.Sets.{has}
 use Rattle.graph.proofs.Bits.{has_or, has_shl}
 use Rattle.tree.specs.Legal.{legal, stands}
-use Rattle.tree.specs.Planted.{graph_in, up_in}
-use Rattle.tree.specs.declared.planted.Tree.{Tree}
-use Rattle.table.specs.declared.states.State.{State}
-use Rattle.table.specs.declared.sweep.Onward.{Onward}
-use Rattle.table.specs.Kept.{most, start, onward, whole, met}
-use Rattle.table.specs.Cells.{state_of}
+use Rattle.table.specs.Kept.{most, start, whole, met}
 use Rattle.table.specs.Marked.{marked, OnlyMet, Closed, Opened, More, Walks}
-use Rattle.table.proofs.Trees.{to_small}
-use Rattle.table.proofs.Layering.{high_state, low_state}
-use Rattle.table.proofs.Stepping.{part_at}
-use Rattle.table.proofs.Follow.{Comes, same, by, comes_on, not_both, start_link, start_door, link_is, met_comes, comes_met}
-
-linked : (e : Entry) (d k : ℕ) → e ≡ Link d → e ≡ Link k → d ≡ k
-linked e d k p q = cc
-
--- the state after a link up, a link down and a door
-module _ (t : Tree) where
-  pub state_up : (c : ℕ) → c < (graph_in t).links → up_in t c ≡ true → (state_of (graph_in t).n ((graph_in t).to c) ≡ start (graph_in t) (up_in t) c) × ((graph_in t).to c < (graph_in t).n + (graph_in t).n)
-  state_up c l e =
-      let o = to_small t c l in
-      (high_state (graph_in t).n ((graph_in t).to c) o ∙ ap (λ (b : Bool). (b, (graph_in t).to c)) (sym e) ∙ sym (start_link (graph_in t) (up_in t) c l), omega arith)
-
-  pub state_down : (c : ℕ) → c < (graph_in t).links → up_in t c ≡ false →
-      (state_of (graph_in t).n ((graph_in t).n + (graph_in t).to c) ≡ start (graph_in t) (up_in t) c) × ((graph_in t).n + (graph_in t).to c < (graph_in t).n + (graph_in t).n)
-  state_down c l e =
-      let o = to_small t c l in
-      (low_state (graph_in t).n ((graph_in t).to c) ∙ ap (λ (b : Bool). (b, (graph_in t).to c)) (sym e) ∙ sym (start_link (graph_in t) (up_in t) c l), omega arith)
-
-  pub state_door : (c : ℕ) → (graph_in t).links ≤ c → c < (graph_in t).links + (graph_in t).n →
-      (state_of (graph_in t).n (c - (graph_in t).links) ≡ start (graph_in t) (up_in t) c) × (c - (graph_in t).links < (graph_in t).n + (graph_in t).n)
-  state_door c l o =
-      let q : c ≡ (graph_in t).links + (c - (graph_in t).links) = omega arith in
-      (high_state (graph_in t).n (c - (graph_in t).links) (omega arith) ∙ sym (ap (start (graph_in t) (up_in t)) q ∙ start_door (graph_in t) (up_in t) (c - (graph_in t).links)), omega arith)
-
--- the row of the state after a channel
-pub row_is : (w : Onward) (c x : ℕ) (e : State) → e ≡ get_or (vec_items w.swept.states) x e → state_of (graph_in w.swept.tree.now).n x ≡ start (graph_in w.swept.tree.now) (up_in w.swept.tree.now) c → x < (graph_in w.swept.tree.now).n + (graph_in w.swept.tree.now).n →
-    (length (vec_items e.row) ≡ (graph_in w.swept.tree.now).n) ×
-    ((p : ℕ) → p < (graph_in w.swept.tree.now).n → get_or (vec_items e.row) p Here ≡ whole (graph_in w.swept.tree.now) (up_in w.swept.tree.now) c p)
-row_is w c x e q s l =
-    let z = w.swept.two_for_each in (
-      ap (λ (v : State). length (vec_items v.row)) q ∙ w.swept.rows x e (omega arith),
-      λ p o. ap (λ (es : List Entry). get_or es p Here) (sym (part_at (λ (v : State). vec_items v.row) (vec_items w.swept.states) x e [] (omega arith) q)) ∙ w.found x p l o ∙ ap (onward (graph_in w.swept.tree.now) (up_in w.swept.tree.now) p) s,
-    )
+use Rattle.table.proofs.Follow.{Comes, same, by, comes_on, linked, not_both, link_is, met_comes, comes_met}
 
 -- the link that an entry names is there
 pub there_of : (g : Graph) (up : ℕ → Bool) (p c k : ℕ) (ms : List ℕ) → whole g up c p ≡ Link k → length ms ≡ g.links → k < length ms

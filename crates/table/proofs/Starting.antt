@@ -1,5 +1,5 @@
 -- The states as they start: each has reached its own switch, and every cell says here. Assumes nothing.
-use Rattle.std.proofs.Common.{◌≡◌, ℕ, ◌+◌, ◌-◌, ◌%◌, ◌<◌, Bool, true, false, eqb, ltb, List, [], ◌∷◌, ◌++◌, map, length, get_or, replicate, vec_items, All, sym, refl, ap, ◌∙◌, subst, ⊎_elim, arith}
+use Rattle.std.proofs.Common.{◌≡◌, ℕ, ◌+◌, ◌-◌, ◌%◌, ◌<◌, Bool, true, false, eqb, ltb, List, [], ◌∷◌, ◌++◌, map, length, get_or, replicate, vec_items, All, sym, ap, ◌∙◌, subst, ⊎_elim, arith}
 use Rattle.std.proofs.Math.Nat.{mod-eq_of_lt, mod-eq-sub-mod}
 use Rattle.std.proofs.lemmas.List.{get_or_past, get_or_push, get_or_append_left, get_or-replicate, length-map, length-replicate, length-append, map-append}
 use Rattle.std.proofs.lemmas.List.Elements.{All-append}
@@ -17,12 +17,9 @@ pub record Started (n : ℕ) (ss : List State) (k : ℕ) : Type 0 where
   pub own : (i t : ℕ) → i < k → has (reached_at ss i) t ≡ eqb (state_of n i).1 t
   pub here : (i p : ℕ) → cell_at ss i p ≡ Here
 
--- entries that say here, wherever they are read
-pub all_here : (k i : ℕ) → get_or (replicate k Here) i Here ≡ Here
-all_here k i = ⊎_elim (λ (l : i < k). get_or-replicate k i Here Here l) (λ l. get_or_past (replicate k Here) i Here (let z = length-replicate k Here in omega arith)) (cases_lt i k)
-
-pub started_none : (n : ℕ) (ss : List State) → ss ≡ [] → Started n ss 0
-started_none n ss e = subst (λ (xs : List State). Started n xs 0) (sym e) (record { size = refl; rows = λ i d l. absurd (omega arith); own = λ i t l. absurd (omega arith); here = λ i p. refl })
+-- one value over and over, wherever it is read
+pub all_same : {X : Type 0} (k i : ℕ) (d : X) → get_or (replicate k d) i d ≡ d
+all_same k i d = ⊎_elim (λ (l : i < k). get_or-replicate k i d d l) (λ l. get_or_past (replicate k d) i d (let z = length-replicate k d in omega arith)) (cases_lt i k)
 
 -- the switch of state i
 own_switch : (n i : ℕ) → 0 < n → i < n + n → i % n ≡ (state_of n i).1
@@ -57,12 +54,8 @@ started_more n i ss ss' v p l e r w h = subst (λ (xs : List State). Started n x
 
     here : (m q : ℕ) → cell_at (ss ++ v ∷ []) m q ≡ Here
     here m q = ⊎_elim
-        (λ (z : m ≡ i). subst (λ (j : ℕ). cell_at (ss ++ v ∷ []) j q ≡ Here) (sym z) (ap (λ (es : List Entry). get_or es q Here) (new (λ s. vec_items s.row) [] ∙ w) ∙ all_here n q))
+        (λ (z : m ≡ i). subst (λ (j : ℕ). cell_at (ss ++ v ∷ []) j q ≡ Here) (sym z) (ap (λ (es : List Entry). get_or es q Here) (new (λ s. vec_items s.row) [] ∙ w) ∙ all_same n q Here))
         (λ ne. ⊎_elim
         (λ (o : m < i). ap (λ (es : List Entry). get_or es q Here) (old (λ s. vec_items s.row) [] m o) ∙ h.here m q)
         (λ o. ap (λ (es : List Entry). get_or es q Here) (past (λ s. vec_items s.row) [] m (omega arith)))
         (cases_lt m i)) (cases_eq m i)
-
--- and numbers that are 0
-pub all_zero : (k i : ℕ) → get_or (replicate {A = ℕ} k 0) i 0 ≡ 0
-all_zero k i = ⊎_elim (λ (l : i < k). get_or-replicate k i 0 0 l) (λ l. get_or_past (replicate {A = ℕ} k 0) i 0 (let z = length-replicate {A = ℕ} k 0 in omega arith)) (cases_lt i k)

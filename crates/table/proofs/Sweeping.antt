@@ -1,6 +1,6 @@
 -- The first layer, one layer more, and what all layers find. Assumes nothing.
 use Rattle.std.proofs.Common.{◌≡◌, ℕ, zero, suc, ◌+◌, ◌-◌, ◌<◌, ◌≤◌, Bool, true, false, cond, ◌||◌, eqb, ltb, ◌⊎◌, List, sym, refl, ap, ◌∙◌, subst, inl, inr, ⊎_elim, arith}
-use Rattle.std.proofs.lemmas.Bool.{lt-ltb, le-ltb, cases_Bool, cases_lt, cond-true, cond-false, cond_both, both_ways, and_parts, and_from}
+use Rattle.std.proofs.lemmas.Bool.{le-ltb, cases_Bool, cases_lt, cond-true, cond-false, both_ways, and_parts, and_from}
 use Rattle.net.specs.declared.Entry.TheVariants.{Here, Link}
 use Rattle.roads.specs.Roads.{within, shortest, first}
 use Rattle.roads.proofs.Roads.{goes, within_layer, within_zero, within_cases, within_more, goes_within, goal_within, shortest_within}
@@ -13,16 +13,6 @@ use Rattle.table.specs.Kept.{most, onward}
 use Rattle.table.specs.Cells.{state_of, index_of, reached_at, before_at, cell_at, reached_by, Layer, Held, Found}
 use Rattle.table.proofs.Follow.{here_at}
 use Rattle.table.proofs.Layering.{index_state}
-
-pub state_small : (n i : ℕ) → i < n + n → (state_of n i).1 < n
-state_small n i l = cond_both (ltb i n) (true, i) (false, i - n) (λ (x : Bool × ℕ). x.1 < n)
-    (λ e. let a = ltb_lt i n e in a) (λ e. let b = ltb_ge i n e in omega arith)
-  where
-    ltb_lt : (a b : ℕ) → ltb a b ≡ true → a < b
-    ltb_lt a b e = ⊎_elim (λ (h : a < b). h) (λ h. absurd (both_ways (ltb a b) (le-ltb a b h) e)) (cases_lt a b)
-
-    ltb_ge : (a b : ℕ) → ltb a b ≡ false → b ≤ a
-    ltb_ge a b e = ⊎_elim (λ (h : a < b). absurd (both_ways (ltb a b) e (lt-ltb a b h))) (λ h. h) (cases_lt a b)
 
 module _ (g : Graph) (up : ℕ → Bool) where
   reached_none : (p j : ℕ) (x : Bool × ℕ) → reached_by g up p j 0 x ≡ within (legal g up) (stands p) j x

@@ -16,9 +16,6 @@ pub record Doors (g : Graph) (up : ℕ → Bool) (s : ℕ) (ms : List ℕ) : Typ
   pub opened : (t p : ℕ) → t < s → p < g.n → Opened g up ms t p
 
 module _ (g : Graph) (up : ℕ → Bool) where
-  pub walks_none : (s : ℕ) (ms : List ℕ) → Walks g up s (λ q. q < 0) ms ms
-  walks_none s ms = record { more = λ k p e. e; only = λ h. h; closed = λ h. h; opened = λ p l. absurd (omega arith) }
-
   pub walks_more : (s p : ℕ) (ms ns os : List ℕ) → Walks g up s (λ q. q < p) ms ns → Walks g up s (λ q. q ≡ p) ns os → Walks g up s (λ q. q < p + 1) ms os
   walks_more s p ms ns os a b = record {
     more = λ k q e. b.more k q (a.more k q e);
@@ -26,9 +23,6 @@ module _ (g : Graph) (up : ℕ → Bool) where
     closed = λ h. b.closed (a.closed h);
     opened = λ q l. ⊎_elim (λ (e : q ≡ p). b.opened q e) (λ e. λ d w. b.more d q (a.opened q (omega arith) d w)) (cases_eq q p);
   }
-
-  pub walks_all : (s p n : ℕ) (ms ns : List ℕ) → p ≡ n → Walks g up s (λ q. q < p) ms ns → Walks g up s (λ q. q < n) ms ns
-  walks_all s p n ms ns e a = subst (λ (m : ℕ). Walks g up s (λ q. q < m) ms ns) e a
 
   pub doors_none : (ms : List ℕ) → length ms ≡ g.links → ((i : ℕ) → get_or ms i 0 ≡ 0) → Doors g up 0 ms
   doors_none ms l z = record { size = l; only = λ k p l o e. absurd (both_ways (marked ms k p) (none k p) e); closed = λ k p d l o e w. absurd (both_ways (marked ms k p) (none k p) e); opened = λ s p l. absurd (omega arith) }

@@ -24,7 +24,7 @@ use Rattle.table.specs.Promised.{LaidOut, Planned, Served, Unlaid, Unplanned}
 use Rattle.table.specs.declared.error.LayoutError.{LayoutError}
 use Rattle.table.specs.declared.error.LayoutError.TheVariants.{Room, Cables, Memory}
 use Rattle.table.proofs.Trees.{ups_are, few, links_small}
-use Rattle.table.proofs.Starting.{all_zero}
+use Rattle.table.proofs.Starting.{all_same}
 use Rattle.table.proofs.Served.{laid_good}
 
 module _ (t : Tree) where
@@ -51,7 +51,7 @@ module _ (t : Tree) where
           ∙ get_or-map (λ (w : Way). w.rank) (vec_items t.ways) k no_way 0 (let a = ways_in t in let b = t.ways.ok.0 in omega arith) ∙ rank_at t k o
 
       doors : (c : ℕ) → (graph_in t).links ≤ c → get_or rs c 0 ≡ 0
-      doors c o = ap (λ (ys : List ℕ). get_or ys c 0) e ∙ get_or-append_right (map (λ (w : Way). w.rank) (vec_items t.ways)) (replicate {A = ℕ} (graph_in t).n 0) (graph_in t).links c 0 z o ∙ all_zero (graph_in t).n (c - (graph_in t).links)
+      doors c o = ap (λ (ys : List ℕ). get_or ys c 0) e ∙ get_or-append_right (map (λ (w : Way). w.rank) (vec_items t.ways)) (replicate {A = ℕ} (graph_in t).n 0) (graph_in t).links c 0 z o ∙ all_same (graph_in t).n (c - (graph_in t).links) 0
 
   pub laid_out : (l : Layout) (m : ℕ) → 0 < m → m ≤ 32 → l.links ≡ (graph_in t).links → l.doors ≡ (graph_in t).n → l.places ≡ (graph_in t).n → l.room ≡ m →
       Tabled t (vec_items l.table) → vec_items l.ranks ≡ map (λ w. w.rank) (vec_items t.ways) ++ replicate {A = ℕ} (graph_in t).n 0 → vec_items l.ends ≡ map (λ k. k.to) (vec_items t.cabling.links) → LaidOut t m l

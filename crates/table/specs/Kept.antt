@@ -11,6 +11,10 @@ use Rattle.tree.specs.Legal.{legal, stands}
 abbrev pub most : Graph → ℕ
 most g = suc (2 * g.n)
 
+-- links, and after them a door of each switch
+abbrev pub channels : Graph → ℕ
+channels g = g.links + g.n
+
 -- where a road begins that goes on from channel c: after a link down no link up may follow; channels from `links` on are doors
 abbrev pub start : Graph → (ℕ → Bool) → ℕ → Bool × ℕ
 start g up c = cond (nat_lt c g.links) (up c, g.to c) (true, c - g.links)

@@ -6,7 +6,7 @@ use Rattle.graph.specs.Graph.{Graph}
 use Rattle.graph.specs.Sets.{has}
 use Rattle.tree.specs.Planted.{graph_in, up_in}
 use Rattle.tree.specs.declared.planted.Tree.{Tree}
-use Rattle.table.specs.Kept.{whole, met, kept}
+use Rattle.table.specs.Kept.{channels, whole, met, kept}
 
 -- link k is marked for place p
 abbrev pub marked : List ℕ → ℕ → ℕ → Bool
@@ -44,7 +44,11 @@ pub record AllMet (g : Graph) (up : ℕ → Bool) (ms : List ℕ) : Type 0 where
   pub size : length ms ≡ g.links
   pub marks : (k p : ℕ) → k < g.links → p < g.n → marked ms k p ≡ met g up k p
 
+-- every row is the definition's
+abbrev pub Filled : Graph → (ℕ → Bool) → List Entry → Type 0
+Filled g up es = (c p : ℕ) → c < channels g → p < g.n → slice_index_or es (c * g.n + p) Here ≡ kept g up c p
+
 -- the whole table of a tree
 pub record Tabled (t : Tree) (es : List Entry) : Type 0 where
-  pub size : length es ≡ ((graph_in t).links + (graph_in t).n) * (graph_in t).n
-  pub entries : (c p : ℕ) → c < (graph_in t).links + (graph_in t).n → p < (graph_in t).n → slice_index_or es (c * (graph_in t).n + p) Here ≡ kept (graph_in t) (up_in t) c p
+  pub size : length es ≡ channels (graph_in t) * (graph_in t).n
+  pub entries : Filled (graph_in t) (up_in t) es

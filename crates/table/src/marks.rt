@@ -8,7 +8,7 @@ use graph::has;
 use net::Entry;
 use std::alloc::{AllocError, Global};
 
-impl<'a> Onward<'a> {
+impl Onward<'_> {
     // Marks the links of the road from door s to place p, up to the first that is marked already.
     fn walk(&self, met: &mut [u64], s: usize, p: usize)
         requires size { length met.old ≡ (swept_graph self.now.swept).links }

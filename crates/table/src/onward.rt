@@ -1,11 +1,11 @@
 ghost use Rattle.std.specs.Prelude.{◌≡◌, ℕ, ◌+◌, ◌<◌, length, slice_index_or, IfOk};
 ghost use Rattle.net.specs.declared.Entry.TheVariants.{Here};
 ghost use Rattle.table.specs.Cells.{state_of};
-ghost use Rattle.table.specs.Kept.{start, whole};
+ghost use Rattle.table.specs.Kept.{channels, start, whole};
 ghost use Rattle.table.specs.Swept.{swept_graph, swept_up};
 
 use crate::sweep::{Onward, Sweep};
-use crate::ways::{goes_up, links, to};
+use crate::ways::{goes_up, link, links};
 use net::Entry;
 use std::alloc::{AllocError, Global};
 use tree::Tree;
@@ -28,7 +28,7 @@ impl<'a> Onward<'a> {
 
     // The index of the state after channel c.
     fn state_after(&self, c: usize) -> usize
-        requires { c < (swept_graph self.now.swept).links + (swept_graph self.now.swept).n }
+        requires { c < channels (swept_graph self.now.swept) }
         ensures state { state_of (swept_graph self.now.swept).n result ≡ start (swept_graph self.now.swept) (swept_up self.now.swept) c }
         ensures inside { result < (swept_graph self.now.swept).n + (swept_graph self.now.swept).n }
     {
@@ -37,15 +37,15 @@ impl<'a> Onward<'a> {
         if links <= c {
             c - links
         } else if goes_up(self.swept.tree, c) {
-            to(self.swept.tree, c)
+            link(self.swept.tree, c).to as usize
         } else {
-            n + to(self.swept.tree, c)
+            n + link(self.swept.tree, c).to as usize
         }
     }
 
     // How blocks go on from channel c, to each place.
     pub(crate) fn row(&self, c: usize) -> &[Entry]
-        requires { c < (swept_graph self.now.swept).links + (swept_graph self.now.swept).n }
+        requires { c < channels (swept_graph self.now.swept) }
         ensures size { length result.now ≡ (swept_graph self.now.swept).n }
         ensures cells { (p : ℕ) → p < (swept_graph self.now.swept).n → slice_index_or result.now p Here ≡ whole (swept_graph self.now.swept) (swept_up self.now.swept) c p }
     {

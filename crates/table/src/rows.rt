@@ -1,8 +1,8 @@
-ghost use Rattle.std.specs.Prelude.{◌≡◌, ℕ, ◌+◌, ◌*◌, ◌<◌, length, if◌then◌else◌, slice_index_or};
+ghost use Rattle.std.specs.Prelude.{◌≡◌, ℕ, ◌*◌, ◌<◌, length, if◌then◌else◌, slice_index_or};
 ghost use Rattle.graph.specs.Sets.{has as «has-spec»};
 ghost use Rattle.net.specs.declared.Entry.TheVariants.{Here};
-ghost use Rattle.table.specs.Kept.{kept};
-ghost use Rattle.table.specs.Marked.{AllMet, RowOf};
+ghost use Rattle.table.specs.Kept.{channels};
+ghost use Rattle.table.specs.Marked.{AllMet, Filled, RowOf};
 ghost use Rattle.table.specs.Swept.{swept_graph, swept_up};
 
 use crate::sweep::Onward;
@@ -23,12 +23,12 @@ fn fill_row(row: &mut [Entry], onward: &[Entry], met: u64)
     }
 }
 
-impl<'a> Onward<'a> {
+impl Onward<'_> {
     // Lends the row of channel c on to be filled. To a door blocks for all places come.
     fn fill_channel(&self, met: &[u64], table: &mut [Entry], c: usize)
         requires met { AllMet (swept_graph self.now.swept) (swept_up self.now.swept) met.now }
-        requires size { length table.old ≡ ((swept_graph self.now.swept).links + (swept_graph self.now.swept).n) * (swept_graph self.now.swept).n }
-        requires channel { c < (swept_graph self.now.swept).links + (swept_graph self.now.swept).n }
+        requires size { length table.old ≡ channels (swept_graph self.now.swept) * (swept_graph self.now.swept).n }
+        requires channel { c < channels (swept_graph self.now.swept) }
         ensures { RowOf (swept_graph self.now.swept) (swept_up self.now.swept) table.old c table.new }
     {
         let n = self.swept.tree.cabling.switches;
@@ -39,8 +39,8 @@ impl<'a> Onward<'a> {
     // Fills the lent table, row by row.
     pub(crate) fn fill_table(&self, met: &[u64], table: &mut [Entry])
         requires met { AllMet (swept_graph self.now.swept) (swept_up self.now.swept) met.now }
-        requires size { length table.old ≡ ((swept_graph self.now.swept).links + (swept_graph self.now.swept).n) * (swept_graph self.now.swept).n }
-        ensures { (c p : ℕ) → c < (swept_graph self.now.swept).links + (swept_graph self.now.swept).n → p < (swept_graph self.now.swept).n → slice_index_or table.new (c * (swept_graph self.now.swept).n + p) Here ≡ kept (swept_graph self.now.swept) (swept_up self.now.swept) c p }
+        requires size { length table.old ≡ channels (swept_graph self.now.swept) * (swept_graph self.now.swept).n }
+        ensures { Filled (swept_graph self.now.swept) (swept_up self.now.swept) table.new }
     {
         for c in 0..links(self.swept.tree) + self.swept.tree.cabling.switches {
             self.fill_channel(met, table, c);

@@ -4,7 +4,8 @@ ghost use Rattle.table.specs.Swept.{Layers, Looks, Steps, Underway, swept_graph,
 
 use crate::states::State;
 use crate::sweep::Sweep;
-use crate::ways::{from, goes_up, links, to};
+use crate::ways::{goes_up, link, links};
+use graph::Link;
 use std::alloc::{AllocError, Global};
 use tree::Tree;
 
@@ -15,6 +16,7 @@ impl<'a> Sweep<'a> {
     {
         let n = tree.cabling.switches;
         let mut states = Vec::new(heap);
+        // not a chain: of what `try_collect` gathers the proof learns too little
         for i in 0..n + n {
             states.push(State::new(heap, n, i % n)?)?;
         }
@@ -22,14 +24,13 @@ impl<'a> Sweep<'a> {
     }
 
     // Link k leads from state x to state y: what y had reached is added to what x has.
-    fn step(&mut self, x: usize, y: usize, k: usize)
+    fn step(&mut self, x: usize, y: usize, k: u16)
         requires x { x < (swept_graph self.old).n + (swept_graph self.old).n }
         requires y { y < (swept_graph self.old).n + (swept_graph self.old).n }
-        requires k { k < 256 }
         ensures { Steps self.old x y k self.new }
     {
         let more = self.states[y].before;
-        self.states[x].add(more, k as u16);
+        self.states[x].add(more, k);
     }
 
     // Link k is looked at from each state from which it may be taken: links up only where none down was taken before.
@@ -38,13 +39,14 @@ impl<'a> Sweep<'a> {
         ensures { Looks self.old k self.new }
     {
         let n = self.tree.cabling.switches;
-        let begin = from(self.tree, k);
-        let end = to(self.tree, k);
+        let Link { from, to } = link(self.tree, k);
+        let (begin, end) = (from as usize, to as usize);
+        let number = k as u16;
         if goes_up(self.tree, k) {
-            self.step(begin, end, k);
+            self.step(begin, end, number);
         } else {
-            self.step(begin, n + end, k);
-            self.step(n + begin, n + end, k);
+            self.step(begin, n + end, number);
+            self.step(n + begin, n + end, number);
         }
     }
 

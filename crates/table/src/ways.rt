@@ -1,6 +1,7 @@
 ghost use Rattle.std.specs.Prelude.{◌≡◌, ◌<◌};
 ghost use Rattle.tree.specs.Planted.{graph_in, up_in};
 
+use graph::Link;
 use tree::Tree;
 
 // How many links a tree has.
@@ -10,20 +11,13 @@ pub(crate) fn links(tree: &Tree) -> usize
     tree.cabling.links.len()
 }
 
-// Where link k begins.
-pub(crate) fn from(tree: &Tree, k: usize) -> usize
+// Where link k begins and ends.
+pub(crate) fn link(tree: &Tree, k: usize) -> Link
     requires { k < (graph_in tree.now).links }
-    ensures { result ≡ (graph_in tree.now).from k }
+    ensures from { result.from ≡ (graph_in tree.now).from k }
+    ensures to { result.to ≡ (graph_in tree.now).to k }
 {
-    usize::from(tree.cabling.links[k].from)
-}
-
-// Where link k ends.
-pub(crate) fn to(tree: &Tree, k: usize) -> usize
-    requires { k < (graph_in tree.now).links }
-    ensures { result ≡ (graph_in tree.now).to k }
-{
-    usize::from(tree.cabling.links[k].to)
+    tree.cabling.links[k]
 }
 
 // Whether link k goes up.

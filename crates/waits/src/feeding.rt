@@ -58,7 +58,8 @@ impl Feeding<'_> {
     // Works out the patience of every channel, in slots that come in as zeros.
     fn work_all(&self, found: &mut [u64]) -> Result<(), WaitError>
         requires { found.old ≡ replicate (channels (net_of self.now.plan.now.layout)) 0 }
-        ensures { MatchResult result (λ _. Complete (net_of self.now.plan.now.layout) found.new) (λ e. Why (net_of self.now.plan.now.layout) e) }
+        ensures answer { MatchResult result (λ _. Complete (net_of self.now.plan.now.layout) found.new) (λ e. Why (net_of self.now.plan.now.layout) e) }
+        ensures left { Partly (net_of self.now.plan.now.layout) found.new }
     {
         let layout = &self.plan.layout;
         for c in 0..layout.links + layout.doors {

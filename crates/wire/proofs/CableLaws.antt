@@ -1,13 +1,11 @@
 -- Lists of cables: accepted files are encodings, encodings are accepted, cuts are refused. Assumes nothing.
-use Rattle.std.proofs.Common.{◌≡◌, ℕ, ◌+◌, ◌-◌, ◌*◌, ◌/◌, ◌%◌, ◌<◌, ◌≤◌, eqb, ltb, leb, ◌⊎◌, List, ◌∷◌, length, get_or, take, drop, Some, None, Ok, Err, Option, Result, sym, refl, ap, ◌∙◌, subst, inl, inr, arith}
-use Rattle.std.proofs.lemmas.List.{get_or-take, drop-take, length-drop}
-use Rattle.std.proofs.lemmas.Bool.{cond_both, cond-true, cond-false, eqb-false, ltb-true, leb-true, lt-ltb, le-leb, ne_eqb, cases_lt}
+use Rattle.std.proofs.Common.{◌≡◌, ℕ, ◌+◌, ◌*◌, ◌/◌, ◌%◌, ◌<◌, ◌≤◌, eqb, ltb, leb, List, ◌∷◌, length, get_or, take, drop, Some, None, Ok, Err, Option, Result, sym, refl, ap, ◌∙◌, subst, arith}
+use Rattle.std.proofs.lemmas.List.{get_or-take}
+use Rattle.std.proofs.lemmas.Bool.{cond_both, cond-true, cond-false, eqb-false, ltb-true, leb-true, lt-ltb, le-leb, ne_eqb}
 use Rattle.net.specs.declared.Cable.{Cable}
 use Rattle.wire.specs.declared.cables.Head.{Head}
 use Rattle.wire.specs.declared.fault.Fault.{Fault}
 use Rattle.wire.specs.declared.fault.Fault.TheVariants.{Cut}
-use Rattle.wire.specs.declared.fault.Refusal.{Refusal}
-use Rattle.wire.specs.Faults.{refusal}
 use Rattle.wire.specs.Pairs.{Each, Bytes, word, pair_bytes}
 use Rattle.wire.specs.Files.{file_read, read_as}
 use Rattle.wire.specs.Heads.{within, beginning, unless}
@@ -16,20 +14,7 @@ use Rattle.wire.specs.Cables.{Cables, Proper, cable_by, head_by_bytes, head_of, 
 use Rattle.wire.specs.Laws.{CablesEncoded, CablesProper, CablesBack, CablesCut}
 use Rattle.wire.proofs.PairLaws.{wrong, each_at, each_drop, Filled, pairs_bytes, pairs_each}
 use Rattle.wire.proofs.FileLaws.{Read, read_before, Accepted, accepted, file_back, file_cut}
-use Rattle.wire.proofs.HeadLaws.{
-  Begun,
-  begun,
-  begins_well,
-  begins_cut,
-  begins_still,
-  Fine,
-  unless_ok,
-  within_true,
-  within_fine,
-  begin_head,
-  begin_after,
-  five,
-}
+use Rattle.wire.proofs.HeadLaws.{Begun, begun, begins_well, begins_cut, begins_still, Fine, unless_ok, within_true, within_fine, five}
 
 abbrev high_of : Cable → ℕ
 high_of c = c.a

@@ -1,14 +1,12 @@
 -- Foreign tables: accepted files are encodings, encodings are accepted, cuts are refused. Assumes nothing.
-use Rattle.std.proofs.Common.{◌≡◌, ℕ, ◌+◌, ◌-◌, ◌*◌, ◌/◌, ◌%◌, ◌<◌, ◌≤◌, eqb, leb, ◌⊎◌, List, ◌∷◌, length, get_or, take, drop, Some, None, Ok, Err, Option, Result, sym, refl, ap, ◌∙◌, subst, inl, inr, arith}
-use Rattle.std.proofs.lemmas.List.{get_or-take, drop-take, length-drop}
-use Rattle.std.proofs.lemmas.Bool.{cond_both, cond-true, cond-false, eqb-true, eqb-false, leb-true, le-leb, ne_eqb, cases_lt}
+use Rattle.std.proofs.Common.{◌≡◌, ℕ, ◌+◌, ◌-◌, ◌*◌, ◌/◌, ◌%◌, ◌<◌, ◌≤◌, eqb, leb, List, ◌∷◌, length, get_or, take, drop, Some, None, Ok, Err, Option, Result, sym, refl, ap, ◌∙◌, subst, arith}
+use Rattle.std.proofs.lemmas.List.{get_or-take}
+use Rattle.std.proofs.lemmas.Bool.{cond_both, cond-true, cond-false, eqb-true, eqb-false, leb-true, le-leb, ne_eqb}
 use Rattle.net.specs.declared.Entry.{Entry}
 use Rattle.net.specs.declared.Entry.TheVariants.{Here, Link}
 use Rattle.wire.specs.declared.table.Frame.{Frame}
 use Rattle.wire.specs.declared.fault.Fault.{Fault}
 use Rattle.wire.specs.declared.fault.Fault.TheVariants.{Cut}
-use Rattle.wire.specs.declared.fault.Refusal.{Refusal}
-use Rattle.wire.specs.Faults.{refusal}
 use Rattle.wire.specs.Pairs.{Bytes, word, pair_bytes}
 use Rattle.wire.specs.Files.{file_read, read_as}
 use Rattle.wire.specs.Heads.{beginning, unless}
@@ -16,18 +14,7 @@ use Rattle.wire.specs.Tables.{Foreign, Leads, entry_by_bytes, entry_of, entry_nu
 use Rattle.wire.specs.Laws.{TableEncoded, TableShaped, TableBack, TableCut}
 use Rattle.wire.proofs.PairLaws.{wrong, each_at, each_drop, Filled, pairs_bytes, pairs_each}
 use Rattle.wire.proofs.FileLaws.{Read, read_before, Accepted, accepted, file_back, file_cut}
-use Rattle.wire.proofs.HeadLaws.{
-  Begun,
-  begun,
-  begins_well,
-  begins_cut,
-  begins_still,
-  Fine,
-  unless_ok,
-  begin_head,
-  begin_after,
-  four,
-}
+use Rattle.wire.proofs.HeadLaws.{Begun, begun, begins_well, begins_cut, begins_still, Fine, unless_ok, four}
 
 abbrev high_of : Entry → ℕ
 high_of e = entry_number e / 256

@@ -1,8 +1,7 @@
 -- Lists of cables: the file 1, n, m, count (2), then two switches for each cable. Assumes nothing.
-use Rattle.std.specs.Prelude.{◌≡◌, ℕ, ◌/◌, ◌%◌, ◌<◌, ◌≤◌, cond, List, ◌∷◌, length, Ok, Err, vec_items, Result, ◌==◌, nat_le, nat_lt, slice_index}
+use Rattle.std.specs.Prelude.{ℕ, ◌/◌, ◌%◌, ◌<◌, ◌≤◌, cond, List, ◌∷◌, length, Ok, Err, Result, ◌==◌, nat_le, nat_lt, slice_index}
 use Rattle.net.specs.Cables.{Joins}
 use Rattle.net.specs.declared.Cable.{Cable}
-use Rattle.wire.specs.declared.cables.CableList.{CableList}
 use Rattle.wire.specs.declared.cables.Head.{Head}
 use Rattle.wire.specs.declared.fault.Fault.{Fault}
 use Rattle.wire.specs.declared.fault.Fault.TheVariants.{Switches, Room, TooManyCables, NoSwitch, Itself}
@@ -16,10 +15,6 @@ pub record Cables : Type 0 where
   pub switches : ℕ
   pub room : ℕ
   pub cables : List Cable
-
--- what the code's list holds
-abbrev pub listed : CableList → Cables
-listed l = record { switches = l.switches; room = l.room; cables = vec_items l.cables }
 
 -- a cable of two bytes: switches below n come before a switch to itself
 abbrev pub cable_by : ℕ → ℕ → ℕ → Result Cable Fault

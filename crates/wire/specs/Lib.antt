@@ -4,6 +4,7 @@ pub mod Heads
 pub mod Pairs
 pub mod Files
 pub mod Cables
+pub mod Listed
 pub mod Script
 pub mod Tables
 pub mod Laws

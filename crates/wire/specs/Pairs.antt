@@ -1,5 +1,6 @@
 -- Things of two bytes each, one after another: how they are read and written. Assumes nothing.
 use Rattle.std.specs.Prelude.{ℕ, zero, suc, ◌+◌, ◌*◌, ◌<◌, List, [], ◌∷◌, drop, Ok, Err, Result}
+use Rattle.std.specs.List.{AllByRecursion}
 use Rattle.wire.specs.declared.fault.Fault.{Fault}
 use Rattle.wire.specs.declared.fault.Fault.TheVariants.{Cut, Extra}
 use Rattle.wire.specs.declared.fault.Refusal.{Refusal}
@@ -7,8 +8,7 @@ use Rattle.wire.specs.Faults.{refusal}
 
 -- each element of a list has the property
 abbrev pub Each : {A : Type 0} → (A → Type 0) → List A → Type 0
-Each P [] = Unit {0}
-Each P (x ∷ xs) = P x × Each P xs
+Each P xs = AllByRecursion P xs
 
 -- a list of bytes
 abbrev pub Bytes : List ℕ → Type 0

@@ -1,20 +1,14 @@
-ghost use Rattle.std.specs.Prelude.{◌≡◌, IfOk};
+ghost use Rattle.std.specs.Prelude.{◌≡◌};
 ghost use Rattle.wire.specs.Faults.{Answers};
-ghost use Rattle.wire.specs.Cables.{Proper, cable_by, head_by_bytes, head_of, listed, cables_read};
+ghost use Rattle.wire.specs.Listed.{listed};
+ghost use Rattle.wire.specs.Cables.{cable_by, head_by_bytes, head_of, cables_read};
 
 use crate::fault::{Fault, WireError};
 use crate::file;
 use crate::head::{FileHead, after_kind, within};
+use crate::list::CableList;
 use net::{Cable, limits};
 use std::alloc::Global;
-
-// How many switches there are, how many blocks a store has room for, and the cables.
-#[derive(Drop)]
-pub struct CableList {
-    pub switches: u8,
-    pub room: u8,
-    pub cables: Vec<Cable>,
-}
 
 // The numbers of a file's head.
 #[derive(Clone, Copy)]
@@ -87,8 +81,7 @@ impl FileHead for Head {
 
 // What a file of cables says, or its first fault.
 pub fn read_cables(heap: Global, bytes: &[u8]) -> Result<CableList, WireError>
-    ensures is { Answers listed (cables_read bytes.now) result }
-    ensures proper { IfOk result (λ l. Proper (listed l)) }
+    ensures { Answers listed (cables_read bytes.now) result }
 {
     let (head, cables) = file::read::<Head>(heap, bytes)?;
     Ok(CableList {

@@ -19,14 +19,15 @@ fn things<H: FileHead>(heap: Global, head: &H, bytes: &[u8]) -> Result<Vec<H::Th
     requires { H.SIZE + length bytes.now < 2 ^ 64 }
     ensures { Answers (λ v. v.items) (pairs (H.made head.now) (H.number head.now) H.SIZE bytes.now) result }
 {
+    let count = head.count();
     let (pairs, _) = bytes.as_chunks::<2>();
-    let mut things = Vec::new(heap);
-    for &[high, low] in pairs.iter().take(head.count()) {
+    let mut things = Vec::with_capacity(heap, count.min(pairs.len()))?;
+    for &[high, low] in pairs.iter().take(count) {
         let at = H::SIZE + 2 * things.len();
         things.push(thing_at(head, high, low, at)?)?;
     }
     let end = 2 * things.len();
-    if things.len() < head.count() {
+    if things.len() < count {
         return Err(Fault::Cut.at(H::SIZE + end).into());
     }
     if end < bytes.len() {

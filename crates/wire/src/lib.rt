@@ -10,16 +10,18 @@ mod fault;
 mod file;
 mod head;
 mod laws;
+mod list;
 mod script;
 mod table;
 
-pub use cables::{CableList, read_cables};
+pub use cables::read_cables;
 pub use fault::{Fault, Refusal, WireError};
 pub use laws::{
     cable_lowest, cables_cut, cables_encoded, cables_proper, cables_read_back, frame_lowest,
     head_lowest, table_cut, table_encoded, table_read_back, table_shaped, thing_cut, thing_encoded,
     thing_read_back,
 };
+pub use list::CableList;
 pub use net::Cable;
 pub use script::{Thing, thing_at};
 pub use table::{Table, read_table};

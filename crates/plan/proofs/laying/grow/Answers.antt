@@ -2,7 +2,7 @@
 use Rattle.std.proofs.Common.{◌≡◌, MatchResult, rules}
 use Rattle.std.proofs.lemmas.Result.{MatchResult-weaker}
 use Rattle.tree.specs.Made.{Planted}
-use Rattle.wire.specs.Cables.{listed}
+use Rattle.wire.specs.Listed.{listed}
 use Rattle.wire.specs.declared.fault.WireError.TheVariants.{Memory}
 use Rattle.plan.proofs.Accepted.{grown}
 use Rattle.plan.proofs.laying.grow.Goals as goal

@@ -11,7 +11,7 @@ raise-raised-requires-clause-low c =
     let t = c.args.table.now in
     let few = t.sized.few in
     let l = has_room t.entries.now t.channels t.places c.args.c c.loop-entry.entry-index c.in-Link.e c.row-entry-items.result.now c.args.ranks.now c.loop-entry.ranks
-    (InRow t.entries.now t.places c.args.c c.loop-entry.entry-index) c.loop-entry.raised c.requires.ready c.row-entry-items.ensures c.loop-entry-test.true c.in-Link.is c.loop-entry.invariant in
+    (InRow t.entries.now t.places c.args.c c.loop-entry.entry-index) c.loop-entry.raised t.sized c.requires.ready c.row-entry-items.ensures c.loop-entry-test.true c.in-Link.is c.loop-entry.invariant in
     omega arith
 
 pub loop-entry-preserved : goal.loop-entry-preserved
@@ -26,7 +26,7 @@ loop-entry-preserved c =
     elim c.match-entry.branch [
       | in-Link w ↦ subst (λ (r : List ℕ). Lifted (Hands t.entries.now t.places) U c.args.ranks.now r c.match-entry.raised) (sym w.ranks-is)
           (raise_link t.entries.now t.channels t.places c.args.c p w.in-Link.e row.result.now c.args.ranks.now c.loop-entry.ranks w.raise-raised.new.ranks
-          c.loop-entry.raised w.raise-raised.result c.match-entry.raised c.requires.ready row.ensures c.loop-entry-test.true w.in-Link.is same i
+          c.loop-entry.raised w.raise-raised.result c.match-entry.raised t.sized t.range c.requires.ready row.ensures c.loop-entry-test.true w.in-Link.is same i
           w.raise-raised.ensures.told w.raise-raised.ensures.after w.raised-is)
       | in_default w ↦ subst (λ (r : List ℕ). Lifted (Hands t.entries.now t.places) U c.args.ranks.now r c.match-entry.raised) (sym w.ranks-is)
           (subst (λ (b : Bool). Lifted (Hands t.entries.now t.places) U c.args.ranks.now c.loop-entry.ranks b) (sym w.raised-is)

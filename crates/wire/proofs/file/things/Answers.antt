@@ -1,20 +1,20 @@
 -- The things are read one after another, and then the file ends. Assumes nothing.
-use Rattle.std.proofs.Common.{◌≡◌, ℕ, ◌+◌, ◌*◌, ◌/◌, min, ◌<◌, List, [], ◌∷◌, ◌++◌, length, get_or, take, vec_items, Ok, Err, Result, sym, refl, ap, ◌∙◌, arith}
+use Rattle.std.proofs.Common.{◌≡◌, ◌+◌, ◌*◌, ◌/◌, min, ◌<◌, [], ◌∷◌, length, get_or, vec_items, Ok, Err, sym, refl, ◌∙◌, arith}
 use Rattle.std.proofs.lemmas.List.{length-append}
 use Rattle.std.proofs.lemmas.Slice.{pushed}
 use Rattle.std.proofs.lemmas.Result.{err_from_is_err_and}
 use Rattle.std.proofs.lemmas.Iterator.{YieldsList-from_slice, YieldsList-from_take}
 use Rattle.std.proofs.lemmas.Iterator.Consumers.{YieldsList-turn, YieldsList-end}
 use Rattle.wire.specs.Pairs.{placed}
-use Rattle.wire.proofs.Rows.{chunks, length_taken, Reading, turn_more, turn_stops, reading_grown, reading_cut, reading_all, reading_extra}
+use Rattle.wire.proofs.Rows.{chunks, length_taken, turn_more, turn_stops, reading_grown, reading_cut, reading_extra}
 use Rattle.wire.proofs.file.things.Goals as goal
 
 pub returns-in_err-thing_at : goal.returns-in_err-thing_at
 returns-in_err-thing_at g c =
     let bs = c.args.bytes.now in
-    let m = c.count.result in
+    let m = c.count-count.result in
     let i = length c.loop-high.yielded in
-    let p = err_from_is_err_and c.from_residual.result c.from_residual.ensures.1 in
+    let p = err_from_is_err_and c.from_residual-in_err-thing_at.result c.from_residual-in_err-thing_at.ensures.1 in
     let t = YieldsList-turn (YieldsList-from_take m (YieldsList-from_slice (chunks bs) cc) cc) c.loop-high.yielded _ c.loop-high.yielded_by _ _ c.in-Some.field-0 c.in-Some.is c.next.ensures.steps in
     let at : c.SIZE.result + 2 * c.len.result ≡ g.H.FileHead.SIZE + 2 * i =
     omega (arith, c.SIZE.ensures, c.len.ensures, c.loop-high.things.ok.0, c.loop-high.invariant.0) in
@@ -22,12 +22,12 @@ returns-in_err-thing_at g c =
     rw (← at) (sym c.thing_at.ensures ∙ c.in_err-thing_at.was) in
     rw (p.1, p.2)
     (turn_stops (g.H.FileHead.made c.args.head.now) g.H.FileHead.SIZE (g.H.FileHead.number c.args.head.now) m i bs
-    c.in-Some.field-0.now (vec_items c.loop-high.things) _ c.count.ensures t.0 t.1 c.loop-high.invariant.1 made)
+    c.in-Some.field-0.now (vec_items c.loop-high.things) _ c.count-count.ensures t.0 t.1 c.loop-high.invariant.1 made)
 
 pub loop-high-preserved : goal.loop-high-preserved
 loop-high-preserved g c =
     let bs = c.args.bytes.now in
-    let m = c.count.result in
+    let m = c.count-count.result in
     let i = length c.loop-high.yielded in
     let t = YieldsList-turn (YieldsList-from_take m (YieldsList-from_slice (chunks bs) cc) cc) c.loop-high.yielded _ c.loop-high.yielded_by _ _ c.in-Some.field-0 c.in-Some.is c.next.ensures.steps in
     let at : c.SIZE.result + 2 * c.len.result ≡ g.H.FileHead.SIZE + 2 * i =
@@ -35,7 +35,7 @@ loop-high-preserved g c =
     let made : placed (g.H.FileHead.SIZE + 2 * i) (g.H.FileHead.made c.args.head.now (get_or c.in-Some.field-0.now 0 0) (get_or c.in-Some.field-0.now 1 0)) ≡ Ok c.in_ok-thing_at.field-0 =
     rw (← at) (sym c.thing_at.ensures ∙ c.in_ok-thing_at.was) in
     let more = turn_more (g.H.FileHead.made c.args.head.now) g.H.FileHead.SIZE (g.H.FileHead.number c.args.head.now) m i bs
-    c.in-Some.field-0.now (vec_items c.loop-high.things) c.in_ok-thing_at.field-0 c.count.ensures t.0 t.1 c.loop-high.invariant.1 made in
+    c.in-Some.field-0.now (vec_items c.loop-high.things) c.in_ok-thing_at.field-0 c.count-count.ensures t.0 t.1 c.loop-high.invariant.1 made in
     reading_grown (g.H.FileHead.made c.args.head.now) g.H.FileHead.SIZE (g.H.FileHead.number c.args.head.now) i _ bs
     (vec_items c.loop-high.things) (vec_items c.push.new.self) c.in_ok-thing_at.field-0 c.loop-high.invariant.0
     (sym (length-append c.loop-high.yielded (c.in-Some.field-0 ∷ [])))
@@ -44,7 +44,7 @@ loop-high-preserved g c =
 pub returns-then-len-count : goal.returns-then-len-count
 returns-then-len-count g c =
     let bs = c.args.bytes.now in
-    let m = c.count.result in
+    let m = c.count-count.result in
     let i = length c.loop-high.yielded in
     let t = YieldsList-end (YieldsList-from_take m (YieldsList-from_slice (chunks bs) cc) cc) c.loop-high.yielded _ c.loop-high.yielded_by _ _ c.in-None.is c.next.ensures.steps in
     let l : i ≡ min m (length bs / 2) = t.1 ∙ length_taken m bs in
@@ -52,15 +52,15 @@ returns-then-len-count g c =
     let held = c.loop-high.things.ok.0 in
     let at : g.H.FileHead.SIZE + 2 * i ≡ c.SIZE-then-len-count.result + 2 * c.len-end.result =
     omega (arith, c.SIZE-then-len-count.ensures, c.len-end.ensures, held, c.loop-high.invariant.0) in
-    let less : i < n = omega (arith, c.if-len-count.true, c.len-2.ensures, c.count-2.ensures, held, c.loop-high.invariant.0) in
-    let few : length bs < 2 * i + 2 = omega (arith, l, less, c.count.ensures) in
+    let less : i < n = omega (arith, c.if-len-count.true, c.len-2.ensures, c.count-count.ensures, held, c.loop-high.invariant.0) in
+    let few : length bs < 2 * i + 2 = omega (arith, l, less, c.count-count.ensures) in
     rw (c.into.ensures, c.at.ensures, ← at)
     (reading_cut (g.H.FileHead.made c.args.head.now) g.H.FileHead.SIZE n i bs (vec_items c.loop-high.things) less few c.loop-high.invariant.1)
 
 pub returns-then-end-bytes : goal.returns-then-end-bytes
 returns-then-end-bytes g c =
     let bs = c.args.bytes.now in
-    let m = c.count.result in
+    let m = c.count-count.result in
     let i = length c.loop-high.yielded in
     let t = YieldsList-end (YieldsList-from_take m (YieldsList-from_slice (chunks bs) cc) cc) c.loop-high.yielded _ c.loop-high.yielded_by _ _ c.in-None.is c.next.ensures.steps in
     let l : i ≡ min m (length bs / 2) = t.1 ∙ length_taken m bs in
@@ -68,7 +68,7 @@ returns-then-end-bytes g c =
     let held = c.loop-high.things.ok.0 in
     let at : g.H.FileHead.SIZE + 2 * i ≡ c.SIZE-then-end-bytes.result + 2 * c.len-end.result =
     omega (arith, c.SIZE-then-end-bytes.ensures, c.len-end.ensures, held, c.loop-high.invariant.0) in
-    let all : i ≡ n = omega (arith, c.if-len-count.false, c.len-2.ensures, c.count-2.ensures, l, held, c.loop-high.invariant.0, c.count.ensures) in
+    let all : i ≡ n = omega (arith, c.if-len-count.false, c.len-2.ensures, c.count-count.ensures, l, held, c.loop-high.invariant.0) in
     let more : 2 * i < length bs = omega (arith, c.if-end-bytes.true, c.len-end.ensures, held, c.loop-high.invariant.0) in
     rw (c.into-then-end-bytes.ensures, c.at-then-end-bytes.ensures, ← at)
     (reading_extra (g.H.FileHead.made c.args.head.now) g.H.FileHead.SIZE n i bs (vec_items c.loop-high.things) all more c.loop-high.invariant.1)

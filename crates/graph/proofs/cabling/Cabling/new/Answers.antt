@@ -2,7 +2,7 @@ use Rattle.std.proofs.Common.{◌≡◌, ◌<◌, ap, ◌∙◌, subst, refl}
 use Rattle.std.proofs.lemmas.Result.{err_from_is_err_and}
 use Rattle.graph.specs.Graph.{Graph, graph_with}
 use Rattle.graph.specs.Tree.{Joined, Lost, root}
-use Rattle.graph.proofs.Links.{linked_of, graph_links}
+use Rattle.graph.proofs.Links.{linked_of}
 use Rattle.graph.proofs.cabling.Cabling.new.Goals as goal
 
 pub start-requires : goal.start-requires
@@ -11,7 +11,7 @@ start-requires c = linked_of c.args.switches c.args.cables.now c.deref.result.no
 pub returns-in_err-root : goal.returns-in_err-root
 returns-in_err-root c =
     let n = c.args.switches in
-    let e = c.in_ok-start.ensures.0 ∙ ap (graph_with n) (c.deref.ensures.value ∙ c.in_ok-links.ensures) ∙ graph_links n c.args.cables.now in
+    let e = c.in_ok-start.ensures.0 ∙ ap (graph_with n) (c.deref.ensures.value ∙ c.in_ok-links.ensures) in
     let p = err_from_is_err_and c.from_residual-in_err-root.result c.from_residual-in_err-root.ensures.1 in
     rw (p.1, p.2) (c.in_ok-check.ensures, subst (λ (g : Graph). Lost g c.in_err-root.field-0.0.lost) e c.in_err-root.ensures)
 
@@ -30,6 +30,7 @@ invariant_of-result c =
 pub returns : goal.returns
 returns c =
     let n = c.args.switches in
-    let e = c.in_ok-start.ensures.0 ∙ ap (graph_with n) (c.deref.ensures.value ∙ c.in_ok-links.ensures) ∙ graph_links n c.args.cables.now in
+    let l = ap (graph_with n) c.in_ok-links.ensures in
+    let e = c.in_ok-start.ensures.0 ∙ ap (graph_with n) c.deref.ensures.value ∙ l in
     let h = subst (λ (g : Graph). (c.in_ok-root.root ≡ root g) × (c.in_ok-root.root < g.n) × Joined g) e c.in_ok-root.ensures in
-    record { fine = c.in_ok-check.ensures; switches = refl; links = c.in_ok-links.ensures; root = h.0; joined = h.2 }
+    record { fine = c.in_ok-check.ensures; switches = refl; links = c.in_ok-links.ensures; graph = l; root = h.0; joined = h.2 }

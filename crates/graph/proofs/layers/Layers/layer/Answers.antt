@@ -1,8 +1,7 @@
 use Rattle.std.proofs.Common.{◌≡◌, ℕ, List, map, length, get_or, vec_items, vec_len, sym, refl, ap, ◌∙◌, subst, arith}
 use Rattle.std.proofs.Math.ListN.{length-map}
 use Rattle.std.proofs.lemmas.List.{get_or_read}
-use Rattle.graph.specs.Graph.{graph_with}
-use Rattle.graph.specs.Layers.{Added, Linked, Reached}
+use Rattle.graph.specs.Layers.{Added, Reached}
 use Rattle.graph.specs.Reach.{over}
 use Rattle.graph.proofs.Adding.{added_none, added_link}
 use Rattle.graph.proofs.Layered.{reached_more}
@@ -63,8 +62,3 @@ returns-clause-more c = λ j h.
     reached_more (over y) (vec_items c.copy_from_slice.new.self) (vec_items c.loop-link.sets) j y.linked.ends n y.linked.few
     (subst (λ (k : ℕ). Added (over y) (vec_items c.copy_from_slice.new.self) k (vec_items c.loop-link.sets)) (q ∙ sym m) c.loop-link.invariant.added)
     (subst (λ (xs : List ℕ). Reached (over y) j xs) (sym e) h)
-
-pub invariant_of-self : goal.invariant_of-self
-invariant_of-self c =
-    let y = c.args.self.now in
-    record { linked = subst (λ (n : ℕ). Linked (graph_with n y.links.now)) (sym c.loop-link.invariant.same) y.linked; same = omega arith }

@@ -1,37 +1,21 @@
-use Rattle.std.proofs.Common.{◌≡◌, ℕ, List, [], map, length, get_or, replicate, vec_items, deque_items, refl, ap, ◌∙◌, arith, rules}
-use Rattle.std.proofs.lemmas.Iterator.{YieldsList-from_range, YieldsList-from_map_by, items_from_drains}
+use Rattle.std.proofs.Common.{◌≡◌, ℕ, List, [], map, length, get_or, replicate, vec_items, deque_items, refl, ap, arith, rules}
+use Rattle.std.proofs.lemmas.Iterator.{YieldsList-from_range}
 use Rattle.std.proofs.lemmas.List.{get_or-replicate, length-map, length-replicate}
 use Rattle.net.specs.declared.Block.{Block}
 use Rattle.net.specs.Layout.{net_of}
 use Rattle.round.specs.Link.{queue_of, free_of, turn_of}
-use Rattle.round.proofs.Starts.{new_state, same_for_each}
+use Rattle.round.proofs.Starts.{new_state, made_for_each}
 use Rattle.round.proofs.fabric.Fabric.empty.Goals as goal
-
-links_made : (c : goal.After-new) → let n = c.args.plan.layout.links in
-    (map queue_of (vec_items c.in_ok-links.links) ≡ replicate n []) × (map free_of (vec_items c.in_ok-links.links) ≡ replicate n c.args.plan.layout.room) ×
-    (map turn_of (vec_items c.in_ok-links.links) ≡ replicate n 0)
-links_made c =
-    let l = c.args.plan.layout in
-    let r = c.in_ok-links.ensures.ran in
-    let f = c.map.ensures.closure in
-    let y = YieldsList-from_range 0 l.links l.links c.map.ensures.source (omega arith) in (
-      ap (map queue_of) r.2.0 ∙ items_from_drains r.0 r.1 (YieldsList-from_map_by _ queue_of (λ _. []) y f (λ x r q k. search rules)) ∙ same_for_each 0 l.links [],
-      ap (map free_of) r.2.0 ∙ items_from_drains r.0 r.1 (YieldsList-from_map_by _ free_of (λ _. l.room) y f (λ x r q k. search rules)) ∙ same_for_each 0 l.links l.room,
-      ap (map turn_of) r.2.0 ∙ items_from_drains r.0 r.1 (YieldsList-from_map_by _ turn_of (λ _. 0) y f (λ x r q k. search rules)) ∙ same_for_each 0 l.links 0,
-    )
-
-doors_made : (c : goal.After-new) → map deque_items (vec_items c.in_ok-doors.doors) ≡ replicate c.args.plan.layout.doors []
-doors_made c =
-    let n = c.args.plan.layout.doors in
-    let r = c.in_ok-doors.ensures.ran in
-    let y = YieldsList-from_range 0 n n c.map-2.ensures.source (omega arith) in
-    ap (map deque_items) r.2.0 ∙ items_from_drains r.0 r.1 (YieldsList-from_map_by _ deque_items (λ _. []) y c.map-2.ensures.closure (λ x r q k. search rules)) ∙ same_for_each 0 n []
 
 pub invariant_of-result : goal.invariant_of-result
 invariant_of-result c =
     let l = c.args.plan.layout in
-    let t = (links_made c).2 in
-    let d = doors_made c in
+    let r = c.in_ok-links.ensures.ran in
+    let q = c.in_ok-doors.ensures.ran in
+    let t : map turn_of (vec_items c.in_ok-links.links) ≡ replicate l.links 0 =
+    made_for_each l.links turn_of 0 (YieldsList-from_range 0 l.links l.links c.map.ensures.source (omega arith)) c.map.ensures.closure (λ x y f k. search rules) r.0 _ r.1 r.2.0 in
+    let d : map deque_items (vec_items c.in_ok-doors.doors) ≡ replicate l.doors [] =
+    made_for_each l.doors deque_items [] (YieldsList-from_range 0 l.doors l.doors c.map-2.ensures.source (omega arith)) c.map-2.ensures.closure (λ x y f k. search rules) q.0 _ q.1 q.2.0 in
     let a = ap length t in
     let b = ap length d in
     let m = length-map (vec_items c.in_ok-links.links) turn_of in
@@ -48,8 +32,16 @@ invariant_of-result c =
 
 pub returns : goal.returns
 returns c =
-    let m = links_made c.before in (
+    let l = c.args.plan.layout in
+    let r = c.in_ok-links.ensures.ran in
+    let q = c.in_ok-doors.ensures.ran in
+    let f = c.map.ensures.closure in
+    let y = YieldsList-from_range 0 l.links l.links c.map.ensures.source (omega arith) in
+    let d = YieldsList-from_range 0 l.doors l.doors c.map-2.ensures.source (omega arith) in (
       refl,
-      new_state (net_of c.args.plan.layout) (vec_items c.in_ok-links.links) (map deque_items (vec_items c.in_ok-doors.doors)) (vec_items c.new.result)
-          m.0 m.1 m.2 (doors_made c.before) c.new.ensures.items,
+      new_state (net_of l) (vec_items c.in_ok-links.links) (map deque_items (vec_items c.in_ok-doors.doors)) (vec_items c.new.result)
+          (made_for_each l.links queue_of [] y f (λ x y f k. search rules) r.0 _ r.1 r.2.0)
+          (made_for_each l.links free_of l.room y f (λ x y f k. search rules) r.0 _ r.1 r.2.0)
+          (made_for_each l.links turn_of 0 y f (λ x y f k. search rules) r.0 _ r.1 r.2.0)
+          (made_for_each l.doors deque_items [] d c.map-2.ensures.closure (λ x y f k. search rules) q.0 _ q.1 q.2.0) c.new.ensures.items,
     )

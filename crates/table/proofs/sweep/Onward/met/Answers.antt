@@ -3,13 +3,13 @@ use Rattle.std.proofs.lemmas.List.{take_at, length-replicate}
 use Rattle.tree.specs.Planted.{graph_in, up_in}
 use Rattle.table.specs.Marked.{Walks}
 use Rattle.table.proofs.Walking.{Doors, doors_none, doors_more, doors_all}
-use Rattle.table.proofs.Starting.{all_zero}
+use Rattle.table.proofs.Starting.{all_same}
 use Rattle.table.proofs.sweep.Onward.met.Goals as goal
 
 pub loop-s-init : goal.loop-s-init
 loop-s-init c =
     let q = c.in_ok-met.ensures.items_if_clones_equal (λ y e. e) in
-    doors_none (graph_in c.args.self.now.swept.tree.now) (up_in c.args.self.now.swept.tree.now) (vec_items c.in_ok-met.met) (ap length q ∙ length-replicate {A = ℕ} c.links.result 0 ∙ c.links.ensures) (λ i. ap (λ (xs : List ℕ). get_or xs i 0) q ∙ all_zero c.links.result i)
+    doors_none (graph_in c.args.self.now.swept.tree.now) (up_in c.args.self.now.swept.tree.now) (vec_items c.in_ok-met.met) (ap length q ∙ length-replicate {A = ℕ} c.links.result 0 ∙ c.links.ensures) (λ i. ap (λ (xs : List ℕ). get_or xs i 0) q ∙ all_same c.links.result i 0)
 
 pub loop-s-preserved : goal.loop-s-preserved
 loop-s-preserved c =

@@ -1,7 +1,7 @@
 use Rattle.std.proofs.Common.{◌≡◌, ◌-◌, vec_items}
 use Rattle.graph.specs.Reach.{over}
 use Rattle.graph.proofs.Rooted.{Late}
-use Rattle.graph.proofs.layers.Layers.center.Given as goal
+use Rattle.graph.proofs.layers.Layers.join.Given as goal
 
 abbrev pub invariant-loop-j : goal.invariant-loop-j
 invariant-loop-j l = record {

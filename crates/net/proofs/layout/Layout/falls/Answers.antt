@@ -1,6 +1,0 @@
-use Rattle.std.proofs.Common.{rules}
-use Rattle.net.proofs.Falls.{first_fall}
-use Rattle.net.proofs.layout.Layout.falls.Goals as goal
-
-pub returns : goal.returns
-returns c = first_fall c.args.self.now c.requires _ _ c.first_cell.ensures (λ k p b h. search rules)
