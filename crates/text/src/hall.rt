@@ -17,6 +17,7 @@ pub fn hall_text(heap: Global, hall: &Hall) -> Result<String, AllocError>
     links(&mut text, hall)?;
     doors(&mut text, hall)?;
     table(&mut text, hall)?;
+    // roads are written in pieces, so they are no one thing that `write_each` could show
     for from in 0..hall.bounds.plan.layout.doors {
         roads(&mut text, heap, hall, from)?;
     }
@@ -112,7 +113,7 @@ fn table(text: &mut String, hall: &Hall) -> Result<(), AllocError>
     ensures { OnOk result (string_bytes text.new ≡ string_bytes text.old ++ table_text hall.now) }
 {
     let layout = &hall.bounds.plan.layout;
-    // each row is written in pieces, so it is no thing that an iterator could give
+    // a row is written in pieces, so it is no one thing that `write_each` could show
     for channel in 0..layout.links + layout.doors {
         row(text, hall, channel)?;
     }
@@ -159,6 +160,7 @@ fn roads(text: &mut String, heap: Global, hall: &Hall, from: usize) -> Result<()
     requires { from < hall.now.bounds.plan.layout.doors }
     ensures { OnOk result ((way : ℕ → ℕ → List ℕ) → Ways hall.now way → string_bytes text.new ≡ string_bytes text.old ++ roads_text hall.now way from) }
 {
+    // a road is written in pieces, so it is no one thing that `write_each` could show
     for place in 0..hall.bounds.plan.layout.places {
         road(text, heap, hall, from, place)?;
     }

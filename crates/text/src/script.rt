@@ -35,6 +35,7 @@ fn store(text: &mut String, e: usize, link: LinkView<'_>) -> Result<(), AllocErr
 fn stores(text: &mut String, running: &Running) -> Result<(), AllocError>
     ensures { OnOk result (string_bytes text.new ≡ string_bytes text.old ++ below (store_one running.now) (net_in running.now).links) }
 {
+    // a link's line is written in pieces, so it is no one thing that `write_each` could show
     for e in 0..running.plan().layout.links {
         store(text, e, running.link(e).unwrap())?;
     }
