@@ -18,7 +18,7 @@ impl Onward<'_> {
     {
         let mut c = links(self.swept.tree) + s;
         while let Entry::Link(link) = self.row(c)[p] {
-            let k = link as usize;
+            let k = usize::from(link);
             if has(met[k], p) {
                 return;
             }

@@ -37,9 +37,9 @@ impl<'a> Onward<'a> {
         if links <= c {
             c - links
         } else if goes_up(self.swept.tree, c) {
-            link(self.swept.tree, c).to as usize
+            usize::from(link(self.swept.tree, c).to)
         } else {
-            n + link(self.swept.tree, c).to as usize
+            n + usize::from(link(self.swept.tree, c).to)
         }
     }
 

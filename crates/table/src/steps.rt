@@ -40,7 +40,7 @@ impl<'a> Sweep<'a> {
     {
         let n = self.tree.cabling.switches;
         let Link { from, to } = link(self.tree, k);
-        let (begin, end) = (from as usize, to as usize);
+        let (begin, end) = (usize::from(from), usize::from(to));
         let number = k as u16;
         if goes_up(self.tree, k) {
             self.step(begin, end, number);

@@ -1,4 +1,5 @@
-use Rattle.std.proofs.Common.{ℕ, ◌+◌, sym, ◌∙◌, subst, arith}
+use Rattle.std.proofs.Common.{ap, ℕ, ◌+◌, sym, ◌∙◌, subst, arith}
+use Rattle.net.specs.declared.Entry.TheVariants.{Link}
 use Rattle.tree.specs.Planted.{graph_in, up_in}
 use Rattle.table.proofs.Follow.{nearer}
 use Rattle.table.proofs.Trees.{near, few}
@@ -11,26 +12,26 @@ loop-link-init c =
     (going_start (graph_in c.args.self.now.swept.tree.now) (up_in c.args.self.now.swept.tree.now) c.args.s c.args.p c.requires.door c.requires.place (few c.args.self.now.swept.tree.now) (near c.args.self.now.swept.tree.now c.args.s c.args.p c.requires.door c.requires.place) c.args.met.now)
 
 pub bounds-met-k : goal.bounds-met-k
-bounds-met-k c = there_of (graph_in c.args.self.now.swept.tree.now) (up_in c.args.self.now.swept.tree.now) c.args.p c.loop-link.c c.in-Link.link c.loop-link.met (sym (c.row.ensures.cells c.args.p c.requires.place) ∙ c.in-Link.is) (c.loop-link.auto.met ∙ c.requires.size)
+bounds-met-k c = there_of (graph_in c.args.self.now.swept.tree.now) (up_in c.args.self.now.swept.tree.now) c.args.p c.loop-link.c c.from-k.result c.loop-link.met (sym (c.row.ensures.cells c.args.p c.requires.place) ∙ c.in-Link.is ∙ ap (λ (i : ℕ). Link i) (sym c.from-k.ensures)) (c.loop-link.auto.met ∙ c.requires.size)
 
 pub bounds-met-k-in-Link : goal.bounds-met-k-in-Link
-bounds-met-k-in-Link c = there_of (graph_in c.args.self.now.swept.tree.now) (up_in c.args.self.now.swept.tree.now) c.args.p c.loop-link.c c.in-Link.link c.loop-link.met (sym (c.row.ensures.cells c.args.p c.requires.place) ∙ c.in-Link.is) (c.loop-link.auto.met ∙ c.requires.size)
+bounds-met-k-in-Link c = there_of (graph_in c.args.self.now.swept.tree.now) (up_in c.args.self.now.swept.tree.now) c.args.p c.loop-link.c c.from-k.result c.loop-link.met (sym (c.row.ensures.cells c.args.p c.requires.place) ∙ c.in-Link.is ∙ ap (λ (i : ℕ). Link i) (sym c.from-k.ensures)) (c.loop-link.auto.met ∙ c.requires.size)
 
 pub bounds-met-k-in-Link-2 : goal.bounds-met-k-in-Link-2
-bounds-met-k-in-Link-2 c = there_of (graph_in c.args.self.now.swept.tree.now) (up_in c.args.self.now.swept.tree.now) c.args.p c.loop-link.c c.in-Link.link c.loop-link.met (sym (c.row.ensures.cells c.args.p c.requires.place) ∙ c.in-Link.is) (c.loop-link.auto.met ∙ c.requires.size)
+bounds-met-k-in-Link-2 c = there_of (graph_in c.args.self.now.swept.tree.now) (up_in c.args.self.now.swept.tree.now) c.args.p c.loop-link.c c.from-k.result c.loop-link.met (sym (c.row.ensures.cells c.args.p c.requires.place) ∙ c.in-Link.is ∙ ap (λ (i : ℕ). Link i) (sym c.from-k.ensures)) (c.loop-link.auto.met ∙ c.requires.size)
 
 pub returns-then-has : goal.returns-then-has
 returns-then-has c =
-    going_met (graph_in c.args.self.now.swept.tree.now) (up_in c.args.self.now.swept.tree.now) c.args.s c.args.p c.requires.door c.requires.place (few c.args.self.now.swept.tree.now) (near c.args.self.now.swept.tree.now c.args.s c.args.p c.requires.door c.requires.place) c.args.met.now c.loop-link.met c.loop-link.c c.in-Link.link c.loop-link.invariant (sym (c.row.ensures.cells c.args.p c.requires.place) ∙ c.in-Link.is) (sym c.has.ensures ∙ c.if-has.true)
+    going_met (graph_in c.args.self.now.swept.tree.now) (up_in c.args.self.now.swept.tree.now) c.args.s c.args.p c.requires.door c.requires.place (few c.args.self.now.swept.tree.now) (near c.args.self.now.swept.tree.now c.args.s c.args.p c.requires.door c.requires.place) c.args.met.now c.loop-link.met c.loop-link.c c.from-k.result c.loop-link.invariant (sym (c.row.ensures.cells c.args.p c.requires.place) ∙ c.in-Link.is ∙ ap (λ (i : ℕ). Link i) (sym c.from-k.ensures)) (sym c.has.ensures ∙ c.if-has.true)
 
 pub loop-link-smaller : goal.loop-link-smaller
 loop-link-smaller c =
-    let q = nearer (graph_in c.args.self.now.swept.tree.now) (up_in c.args.self.now.swept.tree.now) c.args.p c.loop-link.c c.in-Link.link (sym (c.row.ensures.cells c.args.p c.requires.place) ∙ c.in-Link.is) in
+    let q = nearer (graph_in c.args.self.now.swept.tree.now) (up_in c.args.self.now.swept.tree.now) c.args.p c.loop-link.c c.from-k.result (sym (c.row.ensures.cells c.args.p c.requires.place) ∙ c.in-Link.is ∙ ap (λ (i : ℕ). Link i) (sym c.from-k.ensures)) in
     omega arith
 
 pub loop-link-preserved : goal.loop-link-preserved
 loop-link-preserved c =
-    going_on (graph_in c.args.self.now.swept.tree.now) (up_in c.args.self.now.swept.tree.now) c.args.s c.args.p c.requires.door c.requires.place (few c.args.self.now.swept.tree.now) (near c.args.self.now.swept.tree.now c.args.s c.args.p c.requires.door c.requires.place) c.args.met.now c.loop-link.met c.loop-link.c c.in-Link.link c.loop-link.invariant (sym (c.row.ensures.cells c.args.p c.requires.place) ∙ c.in-Link.is) (there_of (graph_in c.args.self.now.swept.tree.now) (up_in c.args.self.now.swept.tree.now) c.args.p c.loop-link.c c.in-Link.link c.loop-link.met (sym (c.row.ensures.cells c.args.p c.requires.place) ∙ c.in-Link.is) (c.loop-link.auto.met ∙ c.requires.size))
+    going_on (graph_in c.args.self.now.swept.tree.now) (up_in c.args.self.now.swept.tree.now) c.args.s c.args.p c.requires.door c.requires.place (few c.args.self.now.swept.tree.now) (near c.args.self.now.swept.tree.now c.args.s c.args.p c.requires.door c.requires.place) c.args.met.now c.loop-link.met c.loop-link.c c.from-k.result c.loop-link.invariant (sym (c.row.ensures.cells c.args.p c.requires.place) ∙ c.in-Link.is ∙ ap (λ (i : ℕ). Link i) (sym c.from-k.ensures)) (there_of (graph_in c.args.self.now.swept.tree.now) (up_in c.args.self.now.swept.tree.now) c.args.p c.loop-link.c c.from-k.result c.loop-link.met (sym (c.row.ensures.cells c.args.p c.requires.place) ∙ c.in-Link.is ∙ ap (λ (i : ℕ). Link i) (sym c.from-k.ensures)) (c.loop-link.auto.met ∙ c.requires.size))
 
 pub returns : goal.returns
 returns c =
