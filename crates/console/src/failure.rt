@@ -6,7 +6,7 @@ use std::fmt;
 use wire::WireError;
 
 // Why a program does not do what it is asked.
-#[derive(Drop)]
+#[derive(Debug, Drop)]
 pub enum Failure {
     // The file of this name cannot be read.
     Unread(String),

@@ -148,21 +148,25 @@ reading_extra made start n i bs xs q l inv =
     sym inv ∙ ap (before xs) s
 
 -- a turn of the loop over the first m chunks, at one that gives a value, and at one that is refused
-pub turn_more : {A : Type 0} (made : ℕ → ℕ → Result A Fault) (start n m i : ℕ) (bs c : List ℕ) (xs : List A) (x : A)
-    → m ≡ n → i < length (take m (chunks bs)) → c ≡ get_or (take m (chunks bs)) i c → Reading made start n i bs xs
-    → placed (start + 2 * i) (made (get_or c 0 0) (get_or c 1 0)) ≡ Ok x → Reading made start n (i + 1) bs (xs ++ x ∷ [])
-turn_more made start n m i bs c xs x e h q inv p =
-    let l : length (take m (chunks bs)) ≡ min m (length bs / 2) = length_taken m bs in
-    reading_more made start n i bs xs x (omega (arith, e, h, l)) inv
-    (sym (chunk_at made (start + 2 * i) m i bs c h q ∙ p))
+module _ {A : Type 0} (made : ℕ → ℕ → Result A Fault) (start n m i at : ℕ) (bs c : List ℕ) (xs : List A)
+    (r : Result A Refusal) (e : m ≡ n) (h : i < length (take m (chunks bs))) (q : c ≡ get_or (take m (chunks bs)) i c)
+    (inv : Reading made start n i bs xs) (s : at ≡ start + 2 * i) (p : r ≡ placed at (made (get_or c 0 0) (get_or c 1 0))) where
+  turn_in : i < n
+  turn_in =
+      let l : length (take m (chunks bs)) ≡ min m (length bs / 2) = length_taken m bs in
+      omega (arith, e, h, l)
 
-pub turn_stops : {A : Type 0} (made : ℕ → ℕ → Result A Fault) (start n m i : ℕ) (bs c : List ℕ) (xs : List A) (r : Refusal)
-    → m ≡ n → i < length (take m (chunks bs)) → c ≡ get_or (take m (chunks bs)) i c → Reading made start n i bs xs
-    → placed (start + 2 * i) (made (get_or c 0 0) (get_or c 1 0)) ≡ Err r → pairs made n start bs ≡ Err r
-turn_stops made start n m i bs c xs r e h q inv p =
-    let l : length (take m (chunks bs)) ≡ min m (length bs / 2) = length_taken m bs in
-    reading_stops made start n i bs xs r (omega (arith, e, h, l)) inv
-    (sym (chunk_at made (start + 2 * i) m i bs c h q ∙ p))
+  turn_reads : r ≡ pair_at made (start + 2 * i) (drop (2 * i) bs)
+  turn_reads =
+      p
+      ∙ (ap (λ (j : ℕ). placed j (made (get_or c 0 0) (get_or c 1 0))) s
+      ∙ sym (chunk_at made (start + 2 * i) m i bs c h q))
+
+  pub turn_more : (x : A) → r ≡ Ok x → Reading made start n (i + 1) bs (xs ++ x ∷ [])
+  turn_more x k = reading_more made start n i bs xs x turn_in inv (sym k ∙ turn_reads)
+
+  pub turn_stops : (f : Refusal) → r ≡ Err f → pairs made n start bs ≡ Err f
+  turn_stops f k = reading_stops made start n i bs xs f turn_in inv (sym k ∙ turn_reads)
 
 -- one value more is in hand
 pub reading_grown : {A : Type 0} (made : ℕ → ℕ → Result A Fault) (start n i j : ℕ) (bs : List ℕ) (xs ys : List A) (x : A)

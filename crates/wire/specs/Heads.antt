@@ -8,9 +8,9 @@ abbrev pub within : ℕ → ℕ → Bool
 within limit n = nat_lt 0 n && nat_le n limit
 
 -- the bytes after a file's first, which is to be a kind
-abbrev pub after_kind : ℕ → List ℕ → Result (List ℕ) Fault
-after_kind kind [] = Err Cut
-after_kind kind (b ∷ bs) = cond (b == kind) (Ok bs) (Err (Kind b))
+abbrev pub bytes_after : ℕ → List ℕ → Result (List ℕ) Fault
+bytes_after kind [] = Err Cut
+bytes_after kind (b ∷ bs) = cond (b == kind) (Ok bs) (Err (Kind b))
 
 -- what is wrong with a file's first bytes: there are none, the kind is another, or there are fewer than the head has
 abbrev pub beginning : ℕ → ℕ → List ℕ → Option Fault

@@ -5,7 +5,7 @@ ghost use Rattle.wire.specs.Cables.{cable_by, head_by_bytes, head_of, cables_rea
 
 use crate::fault::{Fault, WireError};
 use crate::file;
-use crate::head::{FileHead, after_kind, within};
+use crate::head::{FileHead, after_kind, is_within};
 use crate::list::CableList;
 use net::{Cable, limits};
 use std::alloc::Global;
@@ -24,10 +24,10 @@ const KIND: u8 = 1;
 fn head_from(switches: u8, room: u8, count: u16) -> Result<Head, Fault>
     ensures { result ≡ head_by_bytes switches room count }
 {
-    if !within(limits::SWITCHES, switches) {
+    if !is_within(limits::SWITCHES, switches) {
         return Err(Fault::Switches(switches));
     }
-    if !within(limits::ROOM, room) {
+    if !is_within(limits::ROOM, room) {
         return Err(Fault::Room(room));
     }
     if count > limits::CABLES {

@@ -1,6 +1,6 @@
 ghost use Rattle.std.specs.Prelude.{◌≡◌};
 ghost use Rattle.wire.specs.Faults.{fault_number, refusal};
-ghost use Rattle.wire.specs.declared.fault.WireError.TheVariants.{Memory, Refused as «refused»};
+ghost use Rattle.wire.specs.declared.fault.WireError.TheVariants.{Memory, Refused};
 
 use std::alloc::{AllocError, AllocFailed};
 
@@ -85,7 +85,7 @@ impl Fault {
 }
 
 impl From<Refusal> for WireError {
-    ghost from_gives = { λ x r. r ≡ «refused» x };
+    ghost from_gives = { λ x r. r ≡ Refused x };
 
     fn from(refusal: Refusal) -> WireError {
         WireError::Refused(refusal)

@@ -1,5 +1,5 @@
 ghost use Rattle.std.specs.Prelude.{◌≡◌, ℕ, List, length, Ok, Err, IfOk, MatchResult, Result, ◌≤◌};
-ghost use Rattle.wire.specs.Heads.{after_kind as «after_kind-spec», within as «within-spec»};
+ghost use Rattle.wire.specs.Heads.{bytes_after, within};
 ghost use Rattle.wire.specs.declared.fault.Fault.{Fault as Why};
 
 use crate::fault::Fault;
@@ -33,15 +33,15 @@ pub(crate) trait FileHead: Copy {
 }
 
 // Whether a number is from 1 to a limit.
-pub(crate) fn within(limit: u8, n: u8) -> bool
-    ensures { result ≡ «within-spec» limit n }
+pub(crate) fn is_within(limit: u8, n: u8) -> bool
+    ensures { result ≡ within limit n }
 {
     (1..=limit).contains(&n)
 }
 
 // The bytes after the first, which is to be this kind.
 pub(crate) fn after_kind(kind: u8, bytes: &[u8]) -> Result<&[u8], Fault>
-    ensures { MatchResult result (λ rest. «after_kind-spec» kind bytes.now ≡ Ok rest.now) (λ f. «after_kind-spec» kind bytes.now ≡ Err f) }
+    ensures { MatchResult result (λ rest. bytes_after kind bytes.now ≡ Ok rest.now) (λ f. bytes_after kind bytes.now ≡ Err f) }
 {
     match bytes {
         [] => Err(Fault::Cut),

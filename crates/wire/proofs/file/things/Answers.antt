@@ -1,11 +1,10 @@
 -- The things are read one after another, and then the file ends. Assumes nothing.
-use Rattle.std.proofs.Common.{◌≡◌, ◌+◌, ◌*◌, ◌/◌, min, ◌<◌, [], ◌∷◌, length, get_or, vec_items, Ok, Err, sym, refl, ◌∙◌, arith}
+use Rattle.std.proofs.Common.{◌≡◌, ◌+◌, ◌*◌, ◌/◌, min, ◌<◌, [], ◌∷◌, length, vec_items, sym, refl, ◌∙◌, arith}
 use Rattle.std.proofs.lemmas.List.{length-append}
 use Rattle.std.proofs.lemmas.Slice.{pushed}
 use Rattle.std.proofs.lemmas.Result.{err_from_is_err_and}
 use Rattle.std.proofs.lemmas.Iterator.{YieldsList-from_slice, YieldsList-from_take}
 use Rattle.std.proofs.lemmas.Iterator.Consumers.{YieldsList-turn, YieldsList-end}
-use Rattle.wire.specs.Pairs.{placed}
 use Rattle.wire.proofs.Rows.{chunks, length_taken, turn_more, turn_stops, reading_grown, reading_cut, reading_extra}
 use Rattle.wire.proofs.file.things.Goals as goal
 
@@ -18,11 +17,10 @@ returns-in_err-thing_at g c =
     let t = YieldsList-turn (YieldsList-from_take m (YieldsList-from_slice (chunks bs) cc) cc) c.loop-high.yielded _ c.loop-high.yielded_by _ _ c.in-Some.field-0 c.in-Some.is c.next.ensures.steps in
     let at : c.SIZE.result + 2 * c.len.result ≡ g.H.FileHead.SIZE + 2 * i =
     omega (arith, c.SIZE.ensures, c.len.ensures, c.loop-high.things.ok.0, c.loop-high.invariant.0) in
-    let made : placed (g.H.FileHead.SIZE + 2 * i) (g.H.FileHead.made c.args.head.now (get_or c.in-Some.field-0.now 0 0) (get_or c.in-Some.field-0.now 1 0)) ≡ Err c.in_err-thing_at.field-0.0 =
-    rw (← at) (sym c.thing_at.ensures ∙ c.in_err-thing_at.was) in
     rw (p.1, p.2)
-    (turn_stops (g.H.FileHead.made c.args.head.now) g.H.FileHead.SIZE (g.H.FileHead.number c.args.head.now) m i bs
-    c.in-Some.field-0.now (vec_items c.loop-high.things) _ c.count-count.ensures t.0 t.1 c.loop-high.invariant.1 made)
+    (turn_stops (g.H.FileHead.made c.args.head.now) g.H.FileHead.SIZE (g.H.FileHead.number c.args.head.now) m i _ bs
+    c.in-Some.field-0.now (vec_items c.loop-high.things) c.thing_at.result c.count-count.ensures t.0 t.1
+    c.loop-high.invariant.1 at c.thing_at.ensures _ c.in_err-thing_at.was)
 
 pub loop-high-preserved : goal.loop-high-preserved
 loop-high-preserved g c =
@@ -32,14 +30,13 @@ loop-high-preserved g c =
     let t = YieldsList-turn (YieldsList-from_take m (YieldsList-from_slice (chunks bs) cc) cc) c.loop-high.yielded _ c.loop-high.yielded_by _ _ c.in-Some.field-0 c.in-Some.is c.next.ensures.steps in
     let at : c.SIZE.result + 2 * c.len.result ≡ g.H.FileHead.SIZE + 2 * i =
     omega (arith, c.SIZE.ensures, c.len.ensures, c.loop-high.things.ok.0, c.loop-high.invariant.0) in
-    let made : placed (g.H.FileHead.SIZE + 2 * i) (g.H.FileHead.made c.args.head.now (get_or c.in-Some.field-0.now 0 0) (get_or c.in-Some.field-0.now 1 0)) ≡ Ok c.in_ok-thing_at.field-0 =
-    rw (← at) (sym c.thing_at.ensures ∙ c.in_ok-thing_at.was) in
-    let more = turn_more (g.H.FileHead.made c.args.head.now) g.H.FileHead.SIZE (g.H.FileHead.number c.args.head.now) m i bs
-    c.in-Some.field-0.now (vec_items c.loop-high.things) c.in_ok-thing_at.field-0 c.count-count.ensures t.0 t.1 c.loop-high.invariant.1 made in
     reading_grown (g.H.FileHead.made c.args.head.now) g.H.FileHead.SIZE (g.H.FileHead.number c.args.head.now) i _ bs
     (vec_items c.loop-high.things) (vec_items c.push.new.self) c.in_ok-thing_at.field-0 c.loop-high.invariant.0
     (sym (length-append c.loop-high.yielded (c.in-Some.field-0 ∷ [])))
-    (pushed (c.in_ok-thing_at.field-0 ∷ []) refl c.in_ok-push.was c.push.ensures.items) more
+    (pushed (c.in_ok-thing_at.field-0 ∷ []) refl c.in_ok-push.was c.push.ensures.items)
+    (turn_more (g.H.FileHead.made c.args.head.now) g.H.FileHead.SIZE (g.H.FileHead.number c.args.head.now) m i _ bs
+    c.in-Some.field-0.now (vec_items c.loop-high.things) c.thing_at.result c.count-count.ensures t.0 t.1
+    c.loop-high.invariant.1 at c.thing_at.ensures _ c.in_ok-thing_at.was)
 
 pub returns-then-len-count : goal.returns-then-len-count
 returns-then-len-count g c =
