@@ -1,5 +1,5 @@
 -- Where the things of a script lead. Assumes nothing.
-use Rattle.std.proofs.Common.{◌≡◌, ℕ, ◌+◌, ◌<◌, ◌≤◌, leb, ◌⊎◌, Bool, true, List, [], ◌∷◌, ◌++◌, length, get_or, drop, replicate, Some, None, Ok, Option, sym, refl, ap, ◌∙◌, subst, inl, inr, ⊎_elim, arith}
+use Rattle.std.proofs.Common.{◌≡◌, ℕ, ◌+◌, ◌<◌, ◌≤◌, leb, ◌⊎◌, List, [], ◌∷◌, ◌++◌, length, get_or, drop, replicate, Some, None, Ok, Option, sym, refl, ap, ◌∙◌, subst, inl, inr, ⊎_elim, arith}
 use mathlib.Core.Path.{fun_ext}
 use mathlib.Core.List.Memᴰ
 use mathlib.Core.List.{Memᴰ}
@@ -153,10 +153,9 @@ play_starts cs bs g h z (l, q, b) e n s =
 
 -- and those after a thing
 pub play_on : (cs bs : List ℕ) (g h : Game) (i j : ℕ) (t : Thing) → i < length bs → i < j → thing_read i (drop i bs) ≡ Ok (t, j) →
-    fault_of (net_of_game g) (position_of g) t ≡ None → (done : Bool) → true ≡ done → Takes t g done h → (position_of g).state.round ≤ i →
+    fault_of (net_of_game g) (position_of g) t ≡ None → Takes t g (Ok tt) h → (position_of g).state.round ≤ i →
     ∥ Course cs bs (net_of_game g) i (position_of g) ∥₁ → ((position_of h).state.round ≤ j) × ∥ Course cs bs (net_of_game h) j (position_of h) ∥₁
-play_on cs bs g h i j t l o q f done d u k c =
-    let w = subst (λ (x : Bool). Takes t g x h) (sym d) u in
+play_on cs bs g h i j t l o q f w k c =
     let e : (position_of h).state.round ≡ (play_thing (net_of_game g) t (position_of g)).state.round = ap (λ (x : Position). x.state.round) w.after in
     let m = counts_one (net_of_game g) t (position_of g) in (
       omega arith,

@@ -11,10 +11,15 @@ use Rattle.graph.proofs.Bits.{each_in}
 use Rattle.tree.specs.Planted.{graph_in, up_in}
 use Rattle.tree.specs.declared.planted.Tree.{Tree}
 use Rattle.table.specs.Kept.{whole, met, kept}
-use Rattle.table.specs.Marked.{AllMet, RowOf}
+use Rattle.table.specs.Marked.{AllMet}
 use Rattle.table.proofs.Parts.{put_in, put_other}
 use Rattle.table.proofs.Follow.{comes_met, same}
 use Rattle.table.proofs.Trees.{near, few}
+
+-- the row of channel c is the definition's, and the other rows are as they were
+pub record RowOf (g : Graph) (up : ℕ → Bool) (table : List Entry) (c : ℕ) (table' : List Entry) : Type 0 where
+  pub row : (p : ℕ) → p < g.n → get_or table' (c * g.n + p) Here ≡ kept g up c p
+  pub rest : (i p : ℕ) → (i ≡ c → ⊥) → p < g.n → get_or table' (i * g.n + p) Here ≡ get_or table (i * g.n + p) Here
 
 -- the set of a channel has the places for which it is met
 pub met_is : (t : Tree) (ms : List ℕ) (c w : ℕ) → AllMet (graph_in t) (up_in t) ms → c < (graph_in t).links + (graph_in t).n → w ≡ get_or ms c 18446744073709551615 →

@@ -1,5 +1,5 @@
 -- Which links are marked as met, while roads from doors are walked; and what is made of a tree. Assumes nothing.
-use Rattle.std.specs.Prelude.{◌≡◌, ℕ, ◌+◌, ◌*◌, ◌<◌, Bool, true, List, length, ◌≢◌, slice_index, slice_index_or}
+use Rattle.std.specs.Prelude.{◌≡◌, ℕ, ◌+◌, ◌*◌, ◌<◌, Bool, true, List, length, slice_index, slice_index_or}
 use Rattle.net.specs.declared.Entry.{Entry}
 use Rattle.net.specs.declared.Entry.TheVariants.{Here, Link}
 use Rattle.graph.specs.Graph.{Graph}
@@ -33,11 +33,6 @@ pub record Walks (g : Graph) (up : ℕ → Bool) (s : ℕ) (P : ℕ → Type 0) 
   pub only : OnlyMet g up ms → OnlyMet g up ns
   pub closed : Closed g up ms → Closed g up ns
   pub opened : (p : ℕ) → P p → Opened g up ns s p
-
--- the row of channel c is the definition's, and the other rows are as they were
-pub record RowOf (g : Graph) (up : ℕ → Bool) (table : List Entry) (c : ℕ) (table' : List Entry) : Type 0 where
-  pub row : (p : ℕ) → p < g.n → slice_index_or table' (c * g.n + p) Here ≡ kept g up c p
-  pub rest : (i p : ℕ) → (i ≢ c) → p < g.n → slice_index_or table' (i * g.n + p) Here ≡ slice_index_or table (i * g.n + p) Here
 
 -- for each link the places for which blocks from some door come to it
 pub record AllMet (g : Graph) (up : ℕ → Bool) (ms : List ℕ) : Type 0 where

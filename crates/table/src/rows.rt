@@ -2,7 +2,7 @@ ghost use Rattle.std.specs.Prelude.{◌≡◌, ℕ, ◌*◌, ◌<◌, length, if
 ghost use Rattle.graph.specs.Sets.{has as «has-spec»};
 ghost use Rattle.net.specs.declared.Entry.TheVariants.{Here};
 ghost use Rattle.table.specs.Kept.{channels};
-ghost use Rattle.table.specs.Marked.{AllMet, Filled, RowOf};
+ghost use Rattle.table.specs.Marked.{AllMet, Filled};
 ghost use Rattle.table.specs.Swept.{swept_graph, swept_up};
 
 use crate::sweep::Onward;
@@ -24,26 +24,16 @@ fn fill_row(row: &mut [Entry], onward: &[Entry], met: u64)
 }
 
 impl Onward<'_> {
-    // Lends the row of channel c on to be filled. To a door blocks for all places come.
-    fn fill_channel(&self, met: &[u64], table: &mut [Entry], c: usize)
-        requires met { AllMet (swept_graph self.now.swept) (swept_up self.now.swept) met.now }
-        requires size { length table.old ≡ channels (swept_graph self.now.swept) * (swept_graph self.now.swept).n }
-        requires channel { c < channels (swept_graph self.now.swept) }
-        ensures { RowOf (swept_graph self.now.swept) (swept_up self.now.swept) table.old c table.new }
-    {
-        let n = self.swept.tree.cabling.switches;
-        let met = met.get(c).copied().unwrap_or(u64::MAX);
-        fill_row(&mut table[c * n..c * n + n], self.row(c), met);
-    }
-
-    // Fills the lent table, row by row.
+    // Fills the lent table: the row of each channel is lent on to be filled. To a door blocks for all places come.
     pub(crate) fn fill_table(&self, met: &[u64], table: &mut [Entry])
         requires met { AllMet (swept_graph self.now.swept) (swept_up self.now.swept) met.now }
         requires size { length table.old ≡ channels (swept_graph self.now.swept) * (swept_graph self.now.swept).n }
         ensures { Filled (swept_graph self.now.swept) (swept_up self.now.swept) table.new }
     {
-        for c in 0..links(self.swept.tree) + self.swept.tree.cabling.switches {
-            self.fill_channel(met, table, c);
+        let n = self.swept.tree.cabling.switches;
+        for c in 0..links(self.swept.tree) + n {
+            let met = met.get(c).copied().unwrap_or(u64::MAX);
+            fill_row(&mut table[c * n..c * n + n], self.row(c), met);
         }
     }
 }
