@@ -8,7 +8,9 @@ use table::layout;
 
 // An 8 by 8 grid numbered row by row: cables along the rows first, then along the columns.
 fn grid(heap: Global) -> Result<Vec<Cable>, Fail> {
-    let along = (0..64u8).filter(|a| *a % 8 != 7).map(|a| Cable { a, b: a + 1 });
+    let along = (0..64u8)
+        .filter(|a| *a % 8 != 7)
+        .map(|a| Cable { a, b: a + 1 });
     let across = (0..56u8).map(|a| Cable { a, b: a + 8 });
     Ok(along.chain(across).collect(heap)?)
 }
@@ -38,8 +40,7 @@ struct Foreign<'a> {
 
 impl Foreign<'_> {
     fn verdict(&self, heap: Global) -> Result<Verdict, Fail> {
-        ring::find(heap, self.entries, self.channels, self.places)
-            .map_err(|_| Fail::new("refused"))
+        ring::find(heap, self.entries, self.channels, self.places).map_err(|_| Fail::new("refused"))
     }
 
     // Its smallest ring has these members.
@@ -66,8 +67,7 @@ fn root_of_a_grid(rt: HostRuntime) -> Result<(), Fail> {
     let heap = rt.alloc();
     let cables = grid(heap)?;
     assert!(rt; cables.len() == 112);
-    let cabling =
-        Cabling::new(heap, 64, cables.as_slice()).map_err(|_| Fail::new("refused"))?;
+    let cabling = Cabling::new(heap, 64, cables.as_slice()).map_err(|_| Fail::new("refused"))?;
     assert!(rt; cabling.root == 27);
     Ok(())
 }
@@ -86,9 +86,16 @@ fn halves_not_joined(rt: HostRuntime) -> Result<(), Fail> {
 fn lower_of_two_cables(rt: HostRuntime) -> Result<(), Fail> {
     let cables = [Cable { a: 0, b: 1 }, Cable { a: 0, b: 1 }];
     let net = layout(rt.alloc(), 2, &cables, 2).map_err(|_| Fail::new("refused"))?;
-    let links = net.table.iter().filter(|entry| matches!(**entry, Entry::Link(_)));
+    let links = net
+        .table
+        .iter()
+        .filter(|entry| matches!(**entry, Entry::Link(_)));
     assert!(rt; links.count() == 2);
-    assert!(rt; net.table.iter().all(|entry| matches!(*entry, Entry::Here | Entry::Link(0 | 1))));
+    assert!(rt;
+        net.table
+            .iter()
+            .all(|entry| matches!(*entry, Entry::Here | Entry::Link(0 | 1)))
+    );
     Ok(())
 }
 

@@ -22,8 +22,9 @@ fn run(rt: &HostRuntime) -> Result<ExitCode, Failure> {
     let [cables, script]: [String; 2] = words(rt, HELP)?;
     let cables = read(rt, cables)?;
     let script = read(rt, script)?;
-    let play = Play::start(rt.alloc(), cables.as_slice(), script.as_slice())
-        .map_err(|error| Failure::of(Source::Cables, error))?;
+    let play = Play::start(rt.alloc(), cables.as_slice(), script.as_slice()).map_err(
+        |error| Failure::of(Source::Cables, error),
+    )?;
     tell(rt, play)?;
     Ok(ExitCode::SUCCESS)
 }

@@ -17,8 +17,10 @@ fn main(rt: HostRuntime) -> ExitCode {
 fn lay(rt: &HostRuntime) -> Result<ExitCode, Failure> {
     let [name]: [String; 1] = words(rt, HELP)?;
     let bytes = read(rt, name)?;
-    let hall = Hall::lay(rt.alloc(), bytes.as_slice())
-        .map_err(|error| Failure::of(Source::Cables, error))?;
+    let hall = Hall::lay(rt.alloc(), bytes.as_slice()).map_err(|error| Failure::of(
+        Source::Cables,
+        error,
+    ))?;
     put(rt, hall_text(rt.alloc(), &hall)?.as_str())?;
     Ok(ExitCode::SUCCESS)
 }

@@ -72,8 +72,9 @@ pub fn rings(heap: Global, table: &[u8]) -> anyhow::Result<Answer>
 fn judged(heap: Global, table: &Table) -> anyhow::Result<Answer>
     ensures { IfOk result (λ a. JudgedTable (tabled table.now) a.digest a.end) }
 {
-    let verdict = find(heap, table.entries.as_slice(), table.channels, table.places)
-        .map_err(|_| anyhow!("no memory"))?;
+    let verdict = find(heap, table.entries.as_slice(), table.channels, table.places).map_err(
+        |_| anyhow!("no memory"),
+    )?;
     let text = verdict_text(heap, &verdict)?;
     let end = match verdict {
         Verdict::Ring(_) => End::Ring,
