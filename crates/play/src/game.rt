@@ -7,7 +7,8 @@ use round::Running;
 #[derive(Drop)]
 pub struct Game {
     pub(crate) running: Running,
-    // beside the fabric's doors and not in them: a fabric knows no order of names
+    // Beside the fabric's doors and not in them: a fabric knows no order of names. In 64 bits and no Option: 0 takes any
+    // name, and one more than the last of the 2^32 names takes none.
     pub(crate) fresh: Vec<u64>,
     ghost doors: { vec_len fresh ≡ (net_in running).doors },
 }

@@ -21,6 +21,7 @@ fn judge(rt: &HostRuntime) -> Result<ExitCode, Failure> {
     let table = read_table(rt.alloc(), bytes.as_slice())
         .map_err(|error| Failure::of(Source::Table, error))?;
     let entries = table.entries.as_slice();
+    // A table that was read has right sizes and names only its channels, so it is memory that was refused.
     let verdict = find(rt.alloc(), entries, table.channels, table.places)
         .map_err(|_| Failure::Memory)?;
     put(rt, verdict_text(rt.alloc(), &verdict)?.as_str())?;
