@@ -2,7 +2,6 @@ pub mod Halves
 pub mod Kept
 pub mod Places
 pub mod Sending
-pub mod Sizes
 pub mod Starts
 pub mod States
 pub mod Stays

@@ -1,7 +1,8 @@
 -- Lists read as functions of the index: a write to a list is `at` of its function. Assumes nothing.
-use Rattle.std.proofs.Common.{◌≡◌, ℕ, ◌+◌, ◌-◌, ◌<◌, ◌⊎◌, List, ◌++◌, map, length, get_or, set, sym, ap, ◌∙◌, inl, inr, arith}
+use Rattle.std.proofs.Common.{◌≡◌, ℕ, ◌+◌, ◌-◌, ◌<◌, ◌⊎◌, List, ◌++◌, map, length, All, get_or, set, sym, ap, ◌∙◌, inl, inr, arith}
 use mathlib.Core.Path.{fun_ext}
 use Rattle.std.proofs.lemmas.List.{get_or-set_same, get_or-set_other, get_or-append_right, get_or-map, length-append, length-map, map-set, set-append_right}
+use Rattle.std.proofs.lemmas.List.Elements.{All-set}
 use Rattle.std.proofs.lemmas.Grind.{get_or-set_at}
 use Rattle.std.proofs.lemmas.Bool.{cases_eq}
 use Rattle.machine.proofs.Steps.{at_same, at_other}
@@ -46,3 +47,7 @@ below_set g ys i w n m h all new e l = rw map-set (go (cases_eq e i))
     go : (e ≡ i) ⊎ (e ≡ i → ⊥) → get_or (set (map g ys) i (g w)) e 0 < m
     go (inl q) = let k = get_or-set_at (map g ys) i e (g w) 0 q (simp length-map h) in omega arith
     go (inr q) = let k = get_or-set_other (map g ys) i e (g w) 0 q in let o = all e l in omega arith
+
+-- all read the same where what is written reads as what was there
+pub same_set : {Y : Type 0} (g : Y → ℕ) (ys : List Y) (i : ℕ) (y w : Y) (m : ℕ) → i < length ys → y ≡ get_or ys i y → g w ≡ g y → All (λ v. g v ≡ m) ys → All (λ v. g v ≡ m) (set ys i w)
+same_set g ys i y w m h is e all = All-set (λ v. g v ≡ m) ys i w (e ∙ ap g is ∙ all i y h) all

@@ -4,17 +4,17 @@ ghost use Rattle.std.specs.Prelude.{◌≡◌};
 use std::alloc::AllocError;
 
 // Why a call was refused; what is refused changes nothing.
-#[derive(Clone, Copy)]
+#[derive(Clone, Copy, Debug, PartialEq, Eq)]
 pub enum Refusal {
-    // the block's door isn't there
+    // The block's door isn't there
     NoDoor,
-    // the block's place isn't there
+    // The block's place isn't there
     NoPlace,
-    // as many blocks wait at the door as may
+    // As many blocks wait at the door as may
     DoorFull,
-    // no memory
+    // No memory
     Memory,
-    // all numbers of rounds are used up
+    // All numbers of rounds are used up
     NoMoreRounds,
 }
 

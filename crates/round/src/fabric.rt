@@ -1,5 +1,5 @@
-ghost use Rattle.std.specs.Prelude.{◌≡◌, ℕ, ◌+◌, ◌^◌, ◌<◌, map, is_ok, if◌then◌else◌, vec_len, IfOk, MatchResult, slice_index};
-ghost use Rattle.round.specs.Link.{turn_of};
+ghost use Rattle.std.specs.Prelude.{◌≡◌, ℕ, All, ◌+◌, ◌^◌, ◌<◌, map, is_ok, if◌then◌else◌, vec_len, IfOk, MatchResult, slice_index};
+ghost use Rattle.round.specs.Link.{size_of, turn_of};
 
 use crate::error::Refusal;
 use crate::link::Link;
@@ -18,6 +18,7 @@ pub struct Fabric {
     pub(crate) rounds: u64,
     ghost all_links: { vec_len links ≡ plan.layout.links },
     ghost all_doors: { vec_len doors ≡ plan.layout.doors },
+    ghost sized: { All (λ l. size_of l ≡ plan.layout.room) links.items },
     ghost turned: { (e : ℕ) → e < plan.layout.links → slice_index (map turn_of links.items) e < plan.layout.links + plan.layout.doors },
 }
 

@@ -19,16 +19,13 @@ impl Fabric {
         let Some(block) = self.first(c) else {
             return;
         };
-        match self.plan.entry(c, block.place as usize) {
-            Entry::Here => {
-                self.take(c);
-                self.came.push_reserved(Came {
-                    block,
-                    channel: c as u16,
-                    round: self.rounds,
-                });
-            },
-            Entry::Link(_) => {},
+        if let Entry::Here = self.plan.entry(c, block.place as usize) {
+            self.take(c);
+            self.came.push_reserved(Came {
+                block,
+                channel: c as u16,
+                round: self.rounds,
+            });
         }
     }
 

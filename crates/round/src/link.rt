@@ -23,6 +23,7 @@ impl Link {
         requires { room ≤ 32 }
         ensures empty { items result.store ≡ [] }
         ensures free { credit_free result.credit ≡ room }
+        ensures size { credit_all result.credit ≡ room }
         ensures turn { result.turn ≡ 0 }
     {
         Link {
@@ -37,6 +38,7 @@ impl Link {
         ensures first { result ≡ head_of (items self.old.store) }
         ensures left { items self.new.store ≡ tail_of (items self.old.store) }
         ensures free { MatchOption result (credit_free self.new.credit ≡ credit_free self.old.credit) (λ _. credit_free self.new.credit ≡ credit_free self.old.credit + 1) }
+        ensures size { credit_all self.new.credit ≡ credit_all self.old.credit }
         ensures turn { self.new.turn ≡ self.old.turn }
     {
         let block = self.store.pop()?;
@@ -56,6 +58,7 @@ impl Link {
         requires { 0 < credit_free self.old.credit }
         ensures come { items self.new.store ≡ items self.old.store ++ (block ∷ []) }
         ensures free { credit_free self.new.credit ≡ pred (credit_free self.old.credit) }
+        ensures size { credit_all self.new.credit ≡ credit_all self.old.credit }
         ensures turn { self.new.turn ≡ turn }
     {
         self.store.push(block).unwrap();

@@ -7,7 +7,7 @@ use crate::fabric::Fabric;
 use net::Entry;
 
 impl Fabric {
-    // The first block of channel c wants to go to link e.
+    // Whether the first block of channel c wants to go to link e.
     fn wants(&self, e: usize, c: usize) -> bool
         ensures { result ≡ wants (net_at self.now) e c ((state_of self.now).queue c) }
     {
@@ -28,6 +28,7 @@ impl Fabric {
     {
         let turn = self.links[e].turn as usize;
         let mut found = None;
+        // Nested loops left by a label: the form of the look round is a rule of the project.
         'look: for &(from, to) in &[(turn, self.channels()), (0, turn)] {
             for c in from..to {
                 if self.wants(e, c) {

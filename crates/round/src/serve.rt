@@ -45,7 +45,7 @@ impl Fabric {
         ensures after { state_of self.new ≡ all_served (net_at self.old) (serving (net_at self.old)) (state_of self.old) }
         ensures plan { self.new.plan ≡ self.old.plan }
     {
-        // by index, since each step changes self, in which the order stands
+        // By index, since each step changes self, in which the order stands
         for i in 0..self.order().len() {
             let e = self.order()[i] as usize;
             self.serve(e);

@@ -1,9 +1,9 @@
-use Rattle.std.proofs.Common.{◌≡◌, ℕ, List, [], map, length, get_or, replicate, vec_items, deque_items, refl, ap, arith, rules}
+use Rattle.std.proofs.Common.{◌≡◌, ℕ, sym, ◌∙◌, List, [], map, length, get_or, replicate, vec_items, deque_items, refl, ap, arith, rules}
 use Rattle.std.proofs.lemmas.Iterator.{YieldsList-from_range}
-use Rattle.std.proofs.lemmas.List.{get_or-replicate, length-map, length-replicate}
+use Rattle.std.proofs.lemmas.List.{get_or-map, get_or-replicate, length-map, length-replicate}
 use Rattle.net.specs.declared.Block.{Block}
 use Rattle.net.specs.Layout.{net_of}
-use Rattle.round.specs.Link.{queue_of, free_of, turn_of}
+use Rattle.round.specs.Link.{queue_of, free_of, size_of, turn_of}
 use Rattle.round.proofs.Starts.{new_state, made_for_each}
 use Rattle.round.proofs.fabric.Fabric.empty.Goals as goal
 
@@ -14,6 +14,8 @@ invariant_of-result c =
     let q = c.in_ok-doors.ensures.ran in
     let t : map turn_of (vec_items c.in_ok-links.links) ≡ replicate l.links 0 =
     made_for_each l.links turn_of 0 (YieldsList-from_range 0 l.links l.links c.map.ensures.source (omega arith)) c.map.ensures.closure (λ x y f k. search rules) r.0 _ r.1 r.2.0 in
+    let s : map size_of (vec_items c.in_ok-links.links) ≡ replicate l.links l.room =
+    made_for_each l.links size_of l.room (YieldsList-from_range 0 l.links l.links c.map.ensures.source (omega arith)) c.map.ensures.closure (λ x y f k. search rules) r.0 _ r.1 r.2.0 in
     let d : map deque_items (vec_items c.in_ok-doors.doors) ≡ replicate l.doors [] =
     made_for_each l.doors deque_items [] (YieldsList-from_range 0 l.doors l.doors c.map-2.ensures.source (omega arith)) c.map-2.ensures.closure (λ x y f k. search rules) q.0 _ q.1 q.2.0 in
     let a = ap length t in
@@ -27,6 +29,7 @@ invariant_of-result c =
     record {
       all_links = omega arith;
       all_doors = omega arith;
+      sized = λ e x h. sym (get_or-map size_of (vec_items c.in_ok-links.links) e x l.room h) ∙ ap (λ (us : List ℕ). get_or us e l.room) s ∙ get_or-replicate {A = ℕ} l.links e l.room l.room (omega arith);
       turned = λ e h. let k = ap (λ (us : List ℕ). get_or us e 0) t in let o = get_or-replicate {A = ℕ} l.links e 0 0 h in omega arith;
     }
 

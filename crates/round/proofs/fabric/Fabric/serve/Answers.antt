@@ -5,8 +5,8 @@ use Rattle.net.specs.Net.{Net, channels}
 use Rattle.net.specs.declared.plan.Plan.{Plan}
 use Rattle.machine.specs.Round.{State, following}
 use Rattle.round.specs.Fabric.{net_at, state_of, waiting}
-use Rattle.round.specs.Link.{free_of, turn_of}
-use Rattle.round.proofs.Places.{below_set}
+use Rattle.round.specs.Link.{free_of, size_of, turn_of}
+use Rattle.round.proofs.Places.{below_set, same_set}
 use Rattle.round.proofs.Sending.{following_below, found, held, sent, still_free}
 use Rattle.round.proofs.States.{come_in, free_read}
 use Rattle.round.proofs.fabric.Fabric.serve.Goals as goal
@@ -53,6 +53,7 @@ invariant_of-self c =
     record {
       all_links = g.all_links;
       all_doors = g.all_doors;
+      sized = same_set size_of (vec_items g.links) c.args.e c.index_mut.result.now c.put.new.self l.room (omega arith) c.index_mut.ensures.value c.put.ensures.size g.sized;
       turned = below_set turn_of (vec_items g.links) c.args.e c.put.new.self l.links (l.links + l.doors) (omega arith) g.turned (omega arith);
     }
 

@@ -2,8 +2,8 @@ use Rattle.std.proofs.Common.{◌+◌, ◌-◌, ◌<◌, List, [], length, vec_i
 use Rattle.std.proofs.lemmas.List.{length-map, map-set}
 use Rattle.net.specs.declared.Block.{Block}
 use Rattle.round.specs.Fabric.{listed, net_at, waiting}
-use Rattle.round.specs.Link.{turn_of}
-use Rattle.round.proofs.Places.{below_set, mapped_read}
+use Rattle.round.specs.Link.{size_of, turn_of}
+use Rattle.round.proofs.Places.{below_set, mapped_read, same_set}
 use Rattle.round.proofs.States.{link_left, door_left}
 use Rattle.round.proofs.fabric.Fabric.take.Goals as goal
 
@@ -20,6 +20,7 @@ invariant_of-self c =
     record {
       all_links = f.all_links;
       all_doors = f.all_doors;
+      sized = same_set size_of (vec_items f.links) c.args.c x c.take.new.self l.room h c.index_mut.ensures.value c.take.ensures.size f.sized;
       turned = below_set turn_of (vec_items f.links) c.args.c c.take.new.self l.links (l.links + l.doors) h f.turned (omega arith);
     }
 
