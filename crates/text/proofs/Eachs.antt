@@ -1,7 +1,7 @@
 -- One text more, and texts one after another. Assumes nothing.
 use Rattle.std.proofs.Common.{◌≡◌, ℕ, suc, ◌+◌, ◌<◌, Bool, true, false, cond, ltb, List, [], ◌∷◌, ◌++◌, length, get_or, Some, None, codes, Option, unwrap_or, sym, refl, ap, ◌∙◌, append_assoc, arith, ltb-false, ltb-true, lt-ltb}
 use Rattle.std.proofs.lemmas.List.{append-nil, get_or_past}
-use Rattle.text.specs.Texts.{below, none_word}
+use Rattle.text.specs.Texts.{below, each, none_word}
 
 -- a text that holds a head and the texts of the numbers below i gets one more
 pub below_grows : (f : ℕ → List ℕ) (head s t : List ℕ) (i : ℕ) → s ≡ head ++ below f i → t ≡ s ++ f i → t ≡ head ++ below f (i + 1)
@@ -16,6 +16,21 @@ below_starts f head s p = p ∙ sym (append-nil head)
 -- the texts of the numbers below n, where a loop came to its end
 pub below_ends : (f : ℕ → List ℕ) (head s : List ℕ) (i n : ℕ) → i ≡ n → s ≡ head ++ below f i → s ≡ head ++ below f n
 below_ends f head s i n e p = p ∙ ap (λ (m : ℕ). head ++ below f m) e
+
+each_from : {A : Type 0} (f : ℕ → A → List ℕ) (g : ℕ → List ℕ) (d : A) (k n : ℕ) (head : List ℕ) (xs : List A) → k + length xs ≡ n → head ≡ below g k →
+    ((i j : ℕ) → k + i ≡ j → i < length xs → f j (get_or xs i d) ≡ g j) → head ++ each f k xs ≡ below g n
+unfolding below each
+each_from f g d k n head [] e p h = append-nil head ∙ p ∙ ap (below g) (let q : k ≡ n = omega arith in q)
+each_from f g d k n head (x ∷ xs) e p h =
+    sym (append_assoc head (f k x) (each f (suc k) xs))
+    ∙ each_from f g d (suc k) n (head ++ f k x) xs (omega arith) (ap (λ (u : List ℕ). u ++ f k x) p ∙ ap (λ (u : List ℕ). below g k ++ u) (h 0 k (omega arith) (omega arith)))
+    (λ i j q l. h (suc i) j (omega arith) (omega arith))
+
+-- the texts of the elements of a list, where each is the text of its index
+pub each_below : {A : Type 0} (f : ℕ → A → List ℕ) (g : ℕ → List ℕ) (d : A) (n : ℕ) (xs : List A) → length xs ≡ n → ((k : ℕ) → k < n → f k (get_or xs k d) ≡ g k) → each f 0 xs ≡ below g n
+unfolding below
+each_below f g d n xs e h =
+    each_from f g d 0 n [] xs (omega arith) refl (λ i j q l. ap (λ (m : ℕ). f j (get_or xs m d)) (let r : i ≡ j = omega arith in r) ∙ h j (omega arith))
 
 -- two and three texts that come one after another
 pub two : (s t u a b : List ℕ) → t ≡ s ++ a → u ≡ t ++ b → u ≡ s ++ (a ++ b)

@@ -1,10 +1,8 @@
 -- The texts of a hall that is laid, as lists of bytes. Assumes nothing.
-use Rattle.std.specs.List.{zip}
 use Rattle.std.specs.Prelude.{ℕ, ◌+◌, List, ◌++◌, vec_items, vec_len, codes, decimal, slice_index}
-use Rattle.graph.specs.declared.link.Link.{Link}
 use Rattle.net.specs.Layout.{net_of}
 use Rattle.plan.specs.declared.hall.Hall.{Hall}
-use Rattle.tree.specs.declared.way.Way.{Way as Way_in_tree}
+use Rattle.tree.specs.Planted.{graph_in, rank_in, up_in}
 use Rattle.report.specs.Lines.{door_line, entry_word, head_line, level_line, link_line, road_head, root_line, table_head}
 use Rattle.waits.specs.Laws.{Road, stores}
 use Rattle.text.specs.Texts.{below, each, none_word, numbered}
@@ -22,13 +20,13 @@ head_text h =
 abbrev pub patience_in : Hall → ℕ → ℕ
 patience_in h c = slice_index (vec_items h.bounds.found) c
 
--- the line of a link that goes its way in the tree
-abbrev pub link_one : Hall → ℕ → Link × Way_in_tree → List ℕ
-link_one h c (l, w) = link_line c l.from l.to w.up w.rank (patience_in h c) ++ codes "\n"
+-- the line of a link: its ends and its way in the tree
+abbrev pub link_one : Hall → ℕ → List ℕ
+link_one h c = link_line c ((graph_in h.tree).from c) ((graph_in h.tree).to c) (up_in h.tree c) (rank_in h.tree c) (patience_in h c) ++ codes "\n"
 
 -- a line for each link
 abbrev pub links_text : Hall → List ℕ
-links_text h = each (link_one h) 0 (zip (vec_items h.tree.cabling.links) (vec_items h.tree.ways))
+links_text h = below (link_one h) (vec_len h.tree.cabling.links)
 
 -- the line of a door, which is a channel after the links
 abbrev pub door_one : Hall → ℕ → List ℕ
