@@ -16,9 +16,15 @@ use Rattle.round.specs.declared.fabric.Fabric.{Fabric}
 pub kept : (f : Fabric) → ∥ Past (net_at f) (state_of f) ∥₁ → Kept (net_at f) (state_of f)
 kept f p = (p, λ vs o e. whole (net_at f) (plan_good f.plan) vs o)
 
-pub at_start : (z : Net) (s : State) → s ≡ start z → Past z s
+at_start : (z : Net) (s : State) → s ≡ start z → Past z s
 unfolding play
 at_start z s e = ([], (λ b m. absurd (Memᴰ.not-nil m)), e)
+
+pub started : (f : Fabric) → state_of f ≡ start (net_at f) → ∥ Past (net_at f) (state_of f) ∥₁
+started f e = ∣ at_start (net_at f) (state_of f) e ∣₁
+
+pub kept_at_start : (f : Fabric) → state_of f ≡ start (net_at f) → Kept (net_at f) (state_of f)
+kept_at_start f e = kept f (started f e)
 
 one_more : (z : Net) (vs : List Event) (v : Event) (s : State) → play z (vs ++ (v ∷ [])) s ≡ step z v (play z vs s)
 unfolding play

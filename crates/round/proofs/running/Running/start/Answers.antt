@@ -1,13 +1,9 @@
-use Rattle.round.specs.Fabric.{net_at, state_of}
-use Rattle.round.proofs.Kept.{kept, at_start}
+use Rattle.std.proofs.Common.{rules}
+use Rattle.round.proofs.Kept.{kept_at_start, started}
 use Rattle.round.proofs.running.Running.start.Goals as goal
 
 pub invariant_of-result : goal.invariant_of-result
-invariant_of-result c =
-    let f = c.in_ok-fabric.fabric in
-    record { past = ∣ at_start (net_at f) (state_of f) c.in_ok-fabric.ensures.1 ∣₁ }
+invariant_of-result c = record { past = started c.in_ok-fabric.fabric (search rules) }
 
 pub returns : goal.returns
-returns c =
-    let f = c.in_ok-fabric.fabric in
-    (c.in_ok-fabric.ensures.0, c.in_ok-fabric.ensures.1, kept f ∣ at_start (net_at f) (state_of f) c.in_ok-fabric.ensures.1 ∣₁)
+returns c = (search rules, search rules, kept_at_start c.in_ok-fabric.fabric (search rules))
