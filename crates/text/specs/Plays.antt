@@ -37,14 +37,14 @@ waiting_one g d = waiting_line d (length ((state_in g).queue ((net_in g).links +
 abbrev pub show_text : Running → List ℕ
 show_text g = ((show_line (state_in g).round ++ codes "\n") ++ below (store_one g) (net_in g).links) ++ below (waiting_one g) (net_in g).doors
 
--- what a thing that was played adds to the text, where so many of those that came are in it
+-- what a thing that was played adds to the text, where so many of those that came have been told
 abbrev pub added_text : Running → ℕ → Thing → List ℕ
 added_text g told Round = came_text (drop told (state_in g).came)
 added_text g told Show = show_text g
 added_text g told («block» b) = []
 added_text g told (Word w) = []
 
--- how many of those that came are in the text then
+-- how many of those that came have been told then
 abbrev pub told_then : Running → ℕ → Thing → ℕ
 told_then g told Round = length (state_in g).came
 told_then g told Show = told

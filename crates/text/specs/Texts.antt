@@ -1,10 +1,14 @@
 -- The texts that programs print, as lists of bytes. Assumes nothing.
 use Rattle.std.specs.Iterator.{Drains}
 use Rattle.std.specs.List.{flat_map}
-use Rattle.std.specs.Prelude.{◌≡◌, ℕ, zero, suc, List, [], ◌∷◌, ◌++◌, vec_items, codes, decimal, Option, IsSome, unwrap_or}
+use Rattle.std.specs.Prelude.{◌≡◌, ℕ, zero, suc, List, [], ◌∷◌, ◌++◌, vec_items, codes, decimal, string_bytes, Option, String, IsSome, unwrap_or}
 use Rattle.ring.specs.declared.told.Verdict.{Verdict}
 use Rattle.ring.specs.declared.told.Verdict.TheVariants.{Ring, Ranks}
 use Rattle.report.specs.Lines.{rank_line}
+
+-- a text is written on with these bytes
+abbrev pub Adds : {Z : Type 0} → String Z → String Z → List ℕ → Type 0
+Adds old new bytes = string_bytes new ≡ string_bytes old ++ bytes
 
 -- the texts of the elements of a list one after another, each with its index, which begins at k
 unfoldable pub each : {A : Type 0} → (ℕ → A → List ℕ) → ℕ → List A → List ℕ

@@ -1,6 +1,7 @@
 // The text of a hall that is laid, a fact to a line.
-ghost use Rattle.std.specs.Prelude.{◌≡◌, ℕ, ◌<◌, List, ◌++◌, IfOk, string_bytes, OnOk, vec_len, slice_index, EachIndex};
+ghost use Rattle.std.specs.Prelude.{◌≡◌, ℕ, ◌<◌, List, IfOk, string_bytes, OnOk, vec_len, slice_index, EachIndex};
 ghost use Rattle.text.specs.Laid.{Way, Ways, along_text, doors_text, text_of_hall, head_text, links_text, patience_in, road_text, roads_text, row_text, table_text};
+ghost use Rattle.text.specs.Texts.{Adds};
 
 use crate::pieces::{Line, Spaced, write_each};
 use plan::Hall;
@@ -17,7 +18,7 @@ pub fn hall_text(heap: Global, hall: &Hall) -> Result<String, AllocError>
     links(&mut text, hall)?;
     doors(&mut text, hall)?;
     table(&mut text, hall)?;
-    // roads are written in pieces, so they are no one thing that `write_each` could show
+    // Roads are written in pieces, so they are no one thing that `write_each` could show
     for from in 0..hall.bounds.plan.layout.doors {
         roads(&mut text, heap, hall, from)?;
     }
@@ -26,7 +27,7 @@ pub fn hall_text(heap: Global, hall: &Hall) -> Result<String, AllocError>
 
 // The size of a hall, its root, and the level of each switch.
 fn head(text: &mut String, hall: &Hall) -> Result<(), AllocError>
-    ensures { OnOk result (string_bytes text.new ≡ string_bytes text.old ++ head_text hall.now) }
+    ensures { OnOk result (Adds text.old text.new (head_text hall.now)) }
 {
     let head = HeadLine {
         switches: hall.list.switches,
@@ -49,13 +50,13 @@ fn head(text: &mut String, hall: &Hall) -> Result<(), AllocError>
 fn patience(hall: &Hall, channel: usize) -> u64
     ensures { result ≡ patience_in hall.now channel }
 {
-    // 0 for none: no fact of a hall says that the links of its tree are channels of its plan
+    // None is told as 0: no fact of a hall says that the links of its tree are channels of its plan
     hall.bounds.patience(channel).unwrap_or(0)
 }
 
 // All links.
 fn links(text: &mut String, hall: &Hall) -> Result<(), AllocError>
-    ensures { OnOk result (string_bytes text.new ≡ string_bytes text.old ++ links_text hall.now) }
+    ensures { OnOk result (Adds text.old text.new (links_text hall.now)) }
 {
     let tree = &hall.tree;
     let links = tree.cabling.links.iter().zip(tree.ways.iter()).enumerate();
@@ -76,7 +77,7 @@ fn links(text: &mut String, hall: &Hall) -> Result<(), AllocError>
 
 // All doors.
 fn doors(text: &mut String, hall: &Hall) -> Result<(), AllocError>
-    ensures { OnOk result (string_bytes text.new ≡ string_bytes text.old ++ doors_text hall.now) }
+    ensures { OnOk result (Adds text.old text.new (doors_text hall.now)) }
 {
     let layout = &hall.bounds.plan.layout;
     let switches = 0..layout.doors;
@@ -95,7 +96,7 @@ fn doors(text: &mut String, hall: &Hall) -> Result<(), AllocError>
 
 // The row of a channel.
 fn row(text: &mut String, hall: &Hall, channel: usize) -> Result<(), AllocError>
-    ensures { OnOk result (string_bytes text.new ≡ string_bytes text.old ++ row_text hall.now channel) }
+    ensures { OnOk result (Adds text.old text.new (row_text hall.now channel)) }
 {
     let plan = &hall.bounds.plan;
     write!(text, "{}", TableHead(channel))?;
@@ -110,10 +111,10 @@ fn row(text: &mut String, hall: &Hall, channel: usize) -> Result<(), AllocError>
 
 // All rows.
 fn table(text: &mut String, hall: &Hall) -> Result<(), AllocError>
-    ensures { OnOk result (string_bytes text.new ≡ string_bytes text.old ++ table_text hall.now) }
+    ensures { OnOk result (Adds text.old text.new (table_text hall.now)) }
 {
     let layout = &hall.bounds.plan.layout;
-    // a row is written in pieces, so it is no one thing that `write_each` could show
+    // A row is written in pieces, so it is no one thing that `write_each` could show
     for channel in 0..layout.links + layout.doors {
         row(text, hall, channel)?;
     }
@@ -123,7 +124,7 @@ fn table(text: &mut String, hall: &Hall) -> Result<(), AllocError>
 // The rest of a road's line: the switches at which its links end, and the links.
 fn along(text: &mut String, hall: &Hall, road: &[u16]) -> Result<(), AllocError>
     requires { EachIndex road.now (λ k. slice_index road.now k < vec_len hall.now.bounds.plan.layout.ends) }
-    ensures { OnOk result (string_bytes text.new ≡ string_bytes text.old ++ along_text hall.now road.now) }
+    ensures { OnOk result (Adds text.old text.new (along_text hall.now road.now)) }
 {
     let ends = hall.bounds.plan.layout.ends.as_slice();
     write_each(text, road.iter().map(|link| Spaced(ends[*link as usize])))?;
@@ -146,7 +147,7 @@ fn road(
 ) -> Result<(), AllocError>
     requires door { from < hall.now.bounds.plan.layout.doors }
     requires place { place < hall.now.bounds.plan.layout.places }
-    ensures { OnOk result ((es : List ℕ) → Way hall.now from place es → string_bytes text.new ≡ string_bytes text.old ++ road_text hall.now from place es) }
+    ensures { OnOk result ((es : List ℕ) → Way hall.now from place es → Adds text.old text.new (road_text hall.now from place es)) }
 {
     let links = hall.road(heap, from, place)?.unwrap();
     let wait = hall.wait(from, place).unwrap();
@@ -158,9 +159,9 @@ fn road(
 // The roads from one door to all places.
 fn roads(text: &mut String, heap: Global, hall: &Hall, from: usize) -> Result<(), AllocError>
     requires { from < hall.now.bounds.plan.layout.doors }
-    ensures { OnOk result ((way : ℕ → ℕ → List ℕ) → Ways hall.now way → string_bytes text.new ≡ string_bytes text.old ++ roads_text hall.now way from) }
+    ensures { OnOk result ((way : ℕ → ℕ → List ℕ) → Ways hall.now way → Adds text.old text.new (roads_text hall.now way from)) }
 {
-    // a road is written in pieces, so it is no one thing that `write_each` could show
+    // A road is written in pieces, so it is no one thing that `write_each` could show
     for place in 0..hall.bounds.plan.layout.places {
         road(text, heap, hall, from, place)?;
     }

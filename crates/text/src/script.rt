@@ -1,9 +1,9 @@
 // The text of a script that is played.
 ghost use Rattle.round.specs.Running.{net_in, state_in};
-ghost use Rattle.std.specs.Prelude.{◌≡◌, [], ◌++◌, length, drop, string_bytes, OnOk};
+ghost use Rattle.std.specs.Prelude.{◌≡◌, [], length, drop, string_bytes, OnOk};
 ghost use Rattle.store.specs.Store.{items};
 ghost use Rattle.text.specs.Plays.{added_text, came_text, show_text, store_one, store_text, told_then, waiting_one};
-ghost use Rattle.text.specs.Texts.{below};
+ghost use Rattle.text.specs.Texts.{Adds, below};
 
 use crate::pieces::{Line, write_each};
 use report::{BlockWord, CameLine, ShowLine, StoreHead, WaitingLine};
@@ -14,7 +14,7 @@ use wire::Thing;
 
 // A link as it stands, the oldest block of its store first.
 fn store(text: &mut String, e: usize, link: LinkView<'_>) -> Result<(), AllocError>
-    ensures { OnOk result (string_bytes text.new ≡ string_bytes text.old ++ store_text e link.entry.free link.entry.turn (items link.entry.store.now)) }
+    ensures { OnOk result (Adds text.old text.new (store_text e link.entry.free link.entry.turn (items link.entry.store.now))) }
 {
     let head = StoreHead {
         link: e,
@@ -33,9 +33,9 @@ fn store(text: &mut String, e: usize, link: LinkView<'_>) -> Result<(), AllocErr
 
 // All stores.
 fn stores(text: &mut String, running: &Running) -> Result<(), AllocError>
-    ensures { OnOk result (string_bytes text.new ≡ string_bytes text.old ++ below (store_one running.now) (net_in running.now).links) }
+    ensures { OnOk result (Adds text.old text.new (below (store_one running.now) (net_in running.now).links)) }
 {
-    // a link's line is written in pieces, so it is no one thing that `write_each` could show
+    // A link's line is written in pieces, so it is no one thing that `write_each` could show
     for e in 0..running.plan().layout.links {
         store(text, e, running.link(e).unwrap())?;
     }
@@ -44,7 +44,7 @@ fn stores(text: &mut String, running: &Running) -> Result<(), AllocError>
 
 // How many blocks wait at each door.
 fn waiting(text: &mut String, running: &Running) -> Result<(), AllocError>
-    ensures { OnOk result (string_bytes text.new ≡ string_bytes text.old ++ below (waiting_one running.now) (net_in running.now).doors) }
+    ensures { OnOk result (Adds text.old text.new (below (waiting_one running.now) (net_in running.now).doors)) }
 {
     let doors = 0..running.plan().layout.doors;
     write_each(
@@ -60,7 +60,7 @@ fn waiting(text: &mut String, running: &Running) -> Result<(), AllocError>
 
 // All stores, and how many blocks wait at each door.
 fn show(text: &mut String, running: &Running) -> Result<(), AllocError>
-    ensures { OnOk result (string_bytes text.new ≡ string_bytes text.old ++ show_text running.now) }
+    ensures { OnOk result (Adds text.old text.new (show_text running.now)) }
 {
     writeln!(text, "{}", ShowLine(running.rounds()))?;
     stores(text, running)?;
@@ -68,7 +68,7 @@ fn show(text: &mut String, running: &Running) -> Result<(), AllocError>
     Ok(())
 }
 
-// Text that was not taken yet, and how much of what came is in the text.
+// Text that was not taken yet, and how much of what came has been told.
 #[derive(Drop)]
 pub struct Account {
     pub text: String,
@@ -88,7 +88,7 @@ impl Account {
 
     // Adds what a thing that was played brought.
     pub fn add(&mut self, running: &Running, thing: Thing) -> Result<(), AllocError>
-        ensures text { OnOk result (string_bytes self.new.text ≡ string_bytes self.old.text ++ added_text running.now self.old.told thing) }
+        ensures text { OnOk result (Adds self.old.text self.new.text (added_text running.now self.old.told thing)) }
         ensures told { OnOk result (self.new.told ≡ told_then running.now self.old.told thing) }
     {
         match thing {
@@ -100,7 +100,7 @@ impl Account {
 
     // A line for each block that came since the last round.
     fn came(&mut self, running: &Running) -> Result<(), AllocError>
-        ensures { OnOk result ((string_bytes self.new.text ≡ string_bytes self.old.text ++ came_text (drop self.old.told (state_in running.now).came)) × (self.new.told ≡ length (state_in running.now).came)) }
+        ensures { OnOk result (Adds self.old.text self.new.text (came_text (drop self.old.told (state_in running.now).came)) × (self.new.told ≡ length (state_in running.now).came)) }
     {
         let came = running.came();
         write_each(
