@@ -18,12 +18,15 @@ fn main(rt: HostRuntime) -> ExitCode {
 fn judge(rt: &HostRuntime) -> Result<ExitCode, Failure> {
     let [name]: [String; 1] = words(rt, HELP)?;
     let bytes = read(rt, name)?;
-    let table = read_table(rt.alloc(), bytes.as_slice())
-        .map_err(|error| Failure::of(Source::Table, error))?;
+    let table = read_table(rt.alloc(), bytes.as_slice()).map_err(|error| Failure::of(
+        Source::Table,
+        error,
+    ))?;
     let entries = table.entries.as_slice();
     // A table that was read has right sizes and names only its channels, so it is memory that was refused.
-    let verdict = find(rt.alloc(), entries, table.channels, table.places)
-        .map_err(|_| Failure::Memory)?;
+    let verdict = find(rt.alloc(), entries, table.channels, table.places).map_err(
+        |_| Failure::Memory,
+    )?;
     put(rt, verdict_text(rt.alloc(), &verdict)?.as_str())?;
     match verdict {
         Verdict::Ring(_) => Ok(ExitCode::FAILURE),
