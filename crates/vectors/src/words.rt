@@ -2,7 +2,6 @@
 ghost use Rattle.hex.specs.Hex.{decode_of};
 ghost use Rattle.std.specs.Prelude.{◌≡◌, [], ◌⊎◌, codes, IfSome, IfOk};
 
-use hex::FromHexError;
 use std::alloc::{AllocError, Global};
 
 // The bytes of a word, if it is one: two lower-case digits for each, or `-` for none.
@@ -15,9 +14,7 @@ pub fn unhex(heap: Global, word: &str) -> Result<Option<Vec<u8>>, AllocError>
     if word.bytes().any(|c| c.is_ascii_uppercase()) {
         return Ok(None);
     }
-    match hex::decode(heap, word) {
-        Ok(bytes) => Ok(Some(bytes)),
-        Err(FromHexError::OutOfMemory) => Err(AllocError),
-        Err(_) => Ok(None),
-    }
+    let mut bytes = vec![in heap; 0u8; word.len() / 2]?;
+    let decoded = hex::decode_to_slice(word, &mut bytes);
+    Ok(decoded.is_ok().then_some(bytes))
 }
