@@ -5,6 +5,7 @@ ghost use Rattle.plan.specs.Built.{Drawn, Grown, Late, Lays, Refuses, Severed};
 ghost use Rattle.plan.specs.Halls.{graph_for};
 ghost use Rattle.table.specs.Promised.{LaidOut};
 ghost use Rattle.waits.specs.Working.{Within};
+ghost use Rattle.wire.specs.Cables.{Proper};
 ghost use Rattle.wire.specs.Listed.{listed};
 ghost use Rattle.wire.specs.declared.fault.WireError.TheVariants.{Memory};
 
@@ -20,6 +21,7 @@ use wire::{CableList, Fault, WireError, read_cables};
 // The links and the root of a list of cables, which is refused only where a switch cannot be reached; that is found when
 // all cables are read, so it stands at the end of the file.
 fn cabling_of(heap: Global, list: &CableList, end: usize) -> Result<Cabling, WireError>
+    requires { Proper (listed list.now) }
     ensures { MatchResult result (λ g. Accepts list.now.switches list.now.cables.items g) (λ e. Severed (graph_for (listed list.now)) end e) }
 {
     Cabling::new(heap, list.switches as usize, list.cables.as_slice()).map_err(
@@ -37,6 +39,7 @@ fn cabling_of(heap: Global, list: &CableList, end: usize) -> Result<Cabling, Wir
 
 // The tree with the prescribed root.
 fn grow(heap: Global, list: &CableList, end: usize) -> Result<Tree, WireError>
+    requires { Proper (listed list.now) }
     ensures { MatchResult result (λ t. Grown (listed list.now) t) (λ e. Severed (graph_for (listed list.now)) end e) }
 {
     let cabling = cabling_of(heap, list, end)?;

@@ -1,7 +1,6 @@
-ghost use Rattle.std.specs.Prelude.{◌≡◌, ℕ, ◌+◌, ◌<◌, ◌≤◌, false, ◌&&◌, ◌==◌, if◌then◌else◌, IfOk, MatchOption, slice_index, vec_len};
+ghost use Rattle.std.specs.Prelude.{◌≡◌, ℕ, ◌+◌, ◌<◌, ◌≤◌, false, ◌&&◌, ◌==◌, if◌then◌else◌, MatchOption, slice_index, vec_len};
 
 use crate::dependencies::Dependencies;
-use std::alloc::{AllocError, Global};
 
 // For each channel how many channels the shortest way back from it to `to` has, itself among them, over channels not
 // below `to`.
@@ -20,22 +19,37 @@ impl<'a> Distances<'a> {
     ghost use Rattle.ring.specs.Graph.{FeedsIn};
     ghost use Rattle.ring.specs.Layers.{Near, Source, Spread};
 
-    // The ways back of at most `most` channels.
+    // The ways back of at most `most` channels, told in a list that has room for the numbers; what it held is written over.
+    // Its loops are faster where they are not made part of what calls it.
+    #[inline(never)]
     pub(crate) fn back_to(
-        heap: Global,
         graph: &'a Dependencies,
         to: usize,
         most: u16,
-    ) -> Result<Distances<'a>, AllocError>
+        mut numbers: Vec<u16>,
+    ) -> Distances<'a>
         requires inside { to < graph.now.channels }
         requires some { 0 < most }
         requires few { most ≤ 321 }
-        ensures { IfOk result (λ d. (d.to ≡ to) × (d.graph ≡ graph.entry) × Near (FeedsIn graph.now) to most d.numbers.items) }
+        requires room { vec_len numbers ≡ graph.now.channels }
+        ensures { (result.to ≡ to) × (result.graph ≡ graph.entry) × Near (FeedsIn graph.now) to most result.numbers.items }
     {
-        let numbers = vec![in heap; 0u16; graph.channels]?;
+        numbers.fill(0);
         let mut back = Distances { graph, to, numbers };
         back.fill(most);
-        Ok(back)
+        back
+    }
+
+    // The list alone, for the next ways back.
+    pub(crate) fn into_numbers(self) -> Vec<u16>
+        ensures { vec_len result ≡ self.entry.graph.now.channels }
+    {
+        let Distances {
+            graph: _,
+            to: _,
+            numbers,
+        } = self;
+        numbers
     }
 
     // Gives the numbers layer by layer; after the first layer that no channel is in there are no more.

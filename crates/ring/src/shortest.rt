@@ -21,7 +21,8 @@ pub(crate) fn smallest(heap: Global, graph: &Dependencies) -> Result<Option<Vec<
     let Some(best) = fewest(heap, graph)? else {
         return Ok(None);
     };
-    let back = Distances::back_to(heap, graph, best.low, best.members)?;
+    let numbers = vec![in heap; 0u16; graph.channels]?;
+    let back = Distances::back_to(graph, best.low, best.members, numbers);
     Ok(Some(back.ring(heap)?))
 }
 
@@ -30,12 +31,14 @@ fn fewest(heap: Global, graph: &Dependencies) -> Result<Option<Best>, AllocError
     ensures { IfOk result (λ o. FewestOf (FeedsIn graph.now) graph.now.channels graph.now.channels o) }
 {
     let mut best: Option<Best> = None;
+    let mut numbers = vec![in heap; 0u16; graph.channels]?;
     for low in 0..graph.channels {
         let most = best.map_or(graph.channels as u16 + 1, |best| best.members);
-        let back = Distances::back_to(heap, graph, low, most)?;
+        let back = Distances::back_to(graph, low, most, numbers);
         if let Some(members) = back.members_below(most) {
             best = Some(Best { low, members });
         }
+        numbers = back.into_numbers();
     }
     Ok(best)
 }

@@ -1,11 +1,11 @@
 ghost use Rattle.std.specs.Prelude.{◌≡◌, ◌<◌};
 
 // How many channels feed a link, and which of them was counted last: one that sends the blocks of many places over the
-// link feeds it once.
+// link feeds it once. In small numbers, since a plan may have tens of thousands of links.
 #[derive(Clone, Copy)]
 pub(crate) struct Feeders {
-    pub(crate) number: u64,
-    last: Option<usize>,
+    pub(crate) number: u32,
+    last: Option<u16>,
 }
 
 impl Feeders {
@@ -17,7 +17,7 @@ impl Feeders {
     };
 
     // Counts a channel, unless it is the one that was counted last.
-    pub(crate) fn count(&mut self, channel: usize)
+    pub(crate) fn count(&mut self, channel: u16)
         requires { self.old.number < 65536 }
         ensures { self.new ≡ with channel self.old }
     {

@@ -36,7 +36,7 @@ impl<'a> Feeding<'a> {
         for c in 0..plan.layout.links + plan.layout.doors {
             for p in 0..plan.layout.places {
                 if let Entry::Link(e) = plan.entry(c, p) {
-                    feeders[e as usize].count(c);
+                    feeders[e as usize].count(c as u16);
                 }
             }
         }
@@ -86,7 +86,7 @@ impl Feeding<'_> {
         for p in 0..self.plan.layout.places {
             if let Entry::Link(e) = self.plan.entry(c, p) {
                 let there = self.work_out(found, e as usize)?;
-                most = most.max(times(self.feeders[e as usize].number, there)?);
+                most = most.max(times(self.feeders[e as usize].number as u64, there)?);
             }
         }
         found[c] = most;

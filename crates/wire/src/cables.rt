@@ -1,7 +1,7 @@
-ghost use Rattle.std.specs.Prelude.{◌≡◌};
+ghost use Rattle.std.specs.Prelude.{◌≡◌, IfOk};
 ghost use Rattle.wire.specs.Faults.{Answers};
 ghost use Rattle.wire.specs.Listed.{listed};
-ghost use Rattle.wire.specs.Cables.{cable_by, head_by_bytes, head_of, cables_read};
+ghost use Rattle.wire.specs.Cables.{Proper, cable_by, head_by_bytes, head_of, cables_read};
 
 use crate::fault::{Fault, WireError};
 use crate::file;
@@ -81,7 +81,8 @@ impl FileHead for Head {
 
 // What a file of cables says, or its first fault.
 pub fn read_cables(heap: Global, bytes: &[u8]) -> Result<CableList, WireError>
-    ensures { Answers listed (cables_read bytes.now) result }
+    ensures is { Answers listed (cables_read bytes.now) result }
+    ensures proper { IfOk result (λ l. Proper (listed l)) }
 {
     let (head, cables) = file::read::<Head>(heap, bytes)?;
     Ok(CableList {

@@ -43,15 +43,15 @@ returns-in_default c =
 
 pub ring-requires-clause-some : goal.ring-requires-clause-some
 ring-requires-clause-some c =
-    let e = c.in_ok-back.ensures in
-    some_at c.args.graph c.in_ok-best.field-0 c.in-Some.best c.in_ok-back.back c.in-Some.is c.in_ok-best.ensures e.0 e.1 e.2
+    let e = c.back_to-back.ensures in
+    some_at c.args.graph c.in_ok-best.field-0 c.in-Some.best c.back_to-back.result c.in-Some.is c.in_ok-best.ensures e.0 e.1 e.2
 
 pub ring-requires-clause-near : goal.ring-requires-clause-near
 ring-requires-clause-near c =
-    let e = c.in_ok-back.ensures in
-    near_at c.args.graph c.in_ok-best.field-0 c.in-Some.best c.in_ok-back.back c.in-Some.is c.in_ok-best.ensures e.0 e.1 e.2
+    let e = c.back_to-back.ensures in
+    near_at c.args.graph c.in_ok-best.field-0 c.in-Some.best c.back_to-back.result c.in-Some.is c.in_ok-best.ensures e.0 e.1 e.2
 
 pub returns : goal.returns
 returns c =
-    let e = c.in_ok-back.ensures in
-    smallest_at c.args.graph c.in_ok-best.field-0 c.in-Some.best c.in_ok-back.back c.in-Some.is c.in_ok-best.ensures e.0 e.1 e.2 (vec_items c.in_ok-ring.field-0) c.in_ok-ring.ensures
+    let e = c.back_to-back.ensures in
+    smallest_at c.args.graph c.in_ok-best.field-0 c.in-Some.best c.back_to-back.result c.in-Some.is c.in_ok-best.ensures e.0 e.1 e.2 (vec_items c.in_ok-ring.field-0) c.in_ok-ring.ensures

@@ -14,7 +14,7 @@ pub returns-in_err-tree : goal.returns-in_err-tree
 returns-in_err-tree c =
     let p = err_from_is_err_and c.from_residual-in_err-tree.result c.from_residual-in_err-tree.ensures.1 in
     rw (p.1, p.2)
-    (severed_is c.args.bytes.now (listed c.in_ok-list.list) c.in_ok-list.list.proper c.in_ok-list.ensures
+    (severed_is c.args.bytes.now (listed c.in_ok-list.list) c.in_ok-list.ensures.proper c.in_ok-list.ensures.is
     c.in_err-tree.field-0.0 c.in_err-tree.ensures)
 
 pub returns-in_err-bounds : goal.returns-in_err-bounds
@@ -24,7 +24,7 @@ returns-in_err-bounds c =
     let g = c.in_ok-tree.ensures in
     let n : net_of c.in_ok-plan.plan.layout ≡ hall_net l = drawn_net l c.in_ok-tree.tree c.in_ok-plan.plan g c.in_ok-plan.ensures in
     rw (p.1, p.2)
-    (late_is c.args.bytes.now l c.in_ok-list.list.proper c.in_ok-list.ensures g.joined c.in_err-bounds.field-0.0
+    (late_is c.args.bytes.now l c.in_ok-list.ensures.proper c.in_ok-list.ensures.is g.joined c.in_err-bounds.field-0.0
     (subst (λ (z : Net). Late z (length c.args.bytes.now) c.in_err-bounds.field-0.0) n c.in_err-bounds.ensures))
 
 pub returns : goal.returns
@@ -34,6 +34,6 @@ returns c =
     let n : net_of c.in_ok-plan.plan.layout ≡ hall_net l = drawn_net l c.in_ok-tree.tree c.in_ok-plan.plan g c.in_ok-plan.ensures in
     let w : Within (hall_net l) = subst (λ (z : Net). Within z) n c.in_ok-bounds.ensures.1 in (
       l,
-      accepted_is c.args.bytes.now l c.in_ok-list.list.proper c.in_ok-list.ensures g.joined w,
+      accepted_is c.args.bytes.now l c.in_ok-list.ensures.proper c.in_ok-list.ensures.is g.joined w,
       record { list = refl; tree = g; net = ap (λ (m : Plan). net_of m.layout) c.in_ok-bounds.ensures.0 ∙ n; serves = subst (λ (z : Net). Serving z) n c.in_ok-plan.ensures.serves; soon = w },
     )
